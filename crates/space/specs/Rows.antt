@@ -1,0 +1,61 @@
+-- Rows of three whole numbers, and the determinant of three rows. Assumes nothing.
+use Prim.Native.Nat.{ℕ, zero, suc, zero-le}
+use mathlib.Core.Path.{_≡_}
+use mathlib.Core.List.{List, [], _∷_}
+use native.Mathlib.Omega.{arith}
+use lib.IntN.{ℤ, pos}
+use lib.ListN.{getD}
+use Rattle.whole.specs.Bounds.{_within_, within-≤}
+use Rattle.whole.specs.Formula.{ints}
+use Rattle.space.specs.Vec.{Vec, vec, cross}
+use Rattle.space.specs.Vectors.{det}
+
+-- a difference of two coordinates is within 2 · 8,191, and a part of a normal within twice the square of that
+abbrev pub longest : ℕ
+longest = 16382
+
+abbrev pub widest : ℕ
+widest = 536739848
+
+abbrev pub Step : ℤ → Type 0
+Step z = z within longest
+
+abbrev pub Minor : ℤ → Type 0
+Minor z = z within widest
+
+-- each number of a row is within N
+pub record Row (N : ℕ) (r : List ℤ) : Type 0 where
+  pub at : (j : ℕ) → getD r j (pos 0) within N
+
+-- the first row may be a normal, the other two are steps
+pub record Rows (m : List (List ℤ)) : Type 0 where
+  pub first : Row widest (getD m 0 [])
+  pub second : Row longest (getD m 1 [])
+  pub third : Row longest (getD m 2 [])
+
+-- a row as a vector, and a vector as a row
+abbrev pub vecOf : List ℤ → Vec ℤ
+vecOf r = vec (getD r 0 (pos 0)) (getD r 1 (pos 0)) (getD r 2 (pos 0))
+
+abbrev pub listOf : Vec ℤ → List ℤ
+listOf v = v .x ∷ v .y ∷ v .z ∷ []
+
+-- "the determinant of three rows of three whole numbers"
+abbrev pub detOf : List (List ℤ) → ℤ
+detOf m = det (vecOf (getD m 0 [])) (vecOf (getD m 1 [])) (vecOf (getD m 2 []))
+
+abbrev pub crossOf : List ℤ → List ℤ → List ℤ
+crossOf p q = listOf (cross ints (vecOf p) (vecOf q))
+
+pub row-of : {N : ℕ} {x y z : ℤ} → x within N → y within N → z within N → Row N (x ∷ y ∷ z ∷ [])
+row-of {N} {x} {y} {z} p q r = record { at = each }
+  where
+    each : (j : ℕ) → getD (x ∷ y ∷ z ∷ []) j (pos 0) within N
+    each zero = p
+    each (suc zero) = q
+    each (suc (suc zero)) = r
+    each (suc (suc (suc j))) = record { abs = zero-le }
+
+-- a row of steps may stand in the first place
+pub row-wide : {r : List ℤ} → Row longest r → Row widest r
+row-wide h = record { at = λ j. within-≤ (h .at j) (omega arith) }
