@@ -8,6 +8,8 @@ use lib.ListN.{length, getD}
 use Rattle.whole.specs.Formula.{ints}
 use Rattle.space.specs.Vec.{Vec, vec, cross}
 use Rattle.space.specs.Vectors.{_-_, det}
+use Rattle.whole.specs.Bounds.{_within_}
+use Rattle.space.specs.Range.{limit}
 use Rattle.space.specs.Rows.{vecOf, listOf}
 use Rattle.space.specs.declared.Side.{Side}
 use Rattle.space.specs.declared.Side.the-variants.{Inside, On, Outside}
@@ -22,6 +24,10 @@ Vertex points v = v < vertices points
 -- coordinate k of vertex v
 unfoldable pub coordOf : List ℤ → ℕ → ℕ → ℤ
 coordOf points v k = getD points (v * 3 + k) (pos 0)
+
+-- each coordinate is within RANGE's limits
+abbrev pub Ranged : List ℤ → Type 0
+Ranged points = (v k : ℕ) → Vertex points v → k < 3 → coordOf points v k within limit
 
 abbrev pub point : List ℤ → ℕ → Vec ℤ
 point points v = vec (coordOf points v 0) (coordOf points v 1) (coordOf points v 2)

@@ -9,7 +9,7 @@ ghost use Rattle.space.specs.Vectors.{det};
 ghost use Rattle.space.specs.Plane as plane;
 ghost use Rattle.space.specs.Range.{limit, isOut, InRange};
 ghost use Rattle.space.specs.Rows.{Step, Minor, Row, Rows, longest, widest, detOf, crossOf};
-ghost use Rattle.space.specs.Points.{Vertex, coordOf, stepOf, rowOf, normalOf, isBelow, isAbove, isZero, isNought, sign, sideOf, inLine, isLeft};
+ghost use Rattle.space.specs.Points.{Vertex, Ranged, coordOf, stepOf, rowOf, normalOf, isBelow, isAbove, isZero, isNought, sign, sideOf, inLine, isLeft};
 
 // Whether a coordinate is outside its limits.
 pub fn is_out(x: i32) -> bool
@@ -30,24 +30,32 @@ pub fn entry(run: &[i32], k: usize) -> i64
 }
 
 // Coordinate k of vertex v: every reading of a point goes through here.
-pub fn coord(points: &[i32], v: u16, k: usize) -> i64
-    requires { ⌜ InRange (now points) × Vertex (now points) v × (k < 3) ⌝ }
+pub fn coord(points: &[i32], v: usize, k: usize) -> i32
+    requires { ⌜ Vertex (now points) v × (k < 3) ⌝ }
+    ensures { λ r. ⌜ r ≡ coordOf (now (points .entry)) v k ⌝ }
+{
+    points[v * 3 + k]
+}
+
+// The same in 64 bits.
+pub fn wide(points: &[i32], v: usize, k: usize) -> i64
+    requires { ⌜ Ranged (now points) × Vertex (now points) v × (k < 3) ⌝ }
     ensures { λ r. ⌜ (r ≡ coordOf (now (points .entry)) v k) × r within limit ⌝ }
 {
-    entry(points, (v as usize) * 3 + k)
+    coord(points, v, k) as i64
 }
 
 // Coordinate k of the step from a to b.
 fn step(points: &[i32], a: u16, b: u16, k: usize) -> i64
-    requires { ⌜ InRange (now points) × Vertex (now points) a × Vertex (now points) b × (k < 3) ⌝ }
+    requires { ⌜ Ranged (now points) × Vertex (now points) a × Vertex (now points) b × (k < 3) ⌝ }
     ensures { λ r. ⌜ (r ≡ stepOf (now (points .entry)) a b k) × Step r ⌝ }
 {
-    coord(points, b, k) - coord(points, a, k)
+    wide(points, b as usize, k) - wide(points, a as usize, k)
 }
 
 // The step from a to b.
 fn row(points: &[i32], a: u16, b: u16) -> [i64; 3]
-    requires { ⌜ InRange (now points) × Vertex (now points) a × Vertex (now points) b ⌝ }
+    requires { ⌜ Ranged (now points) × Vertex (now points) a × Vertex (now points) b ⌝ }
     ensures { λ r. ⌜ (r ≡ rowOf (now (points .entry)) a b) × Row longest r ⌝ }
 {
     [
@@ -127,7 +135,7 @@ fn sign(volume: i64) -> Side
 
 // The side of the plane through a, b and c that d is on.
 pub fn side_of(points: &[i32], a: u16, b: u16, c: u16, d: u16) -> Side
-    requires { ⌜ InRange (now points) ⌝ }
+    requires { ⌜ Ranged (now points) ⌝ }
     requires { ⌜ Vertex (now points) a × Vertex (now points) b × Vertex (now points) c × Vertex (now points) d ⌝ }
     ensures { λ r. ⌜ r ≡ sideOf (now (points .entry)) a b c d ⌝ }
 {
@@ -148,7 +156,7 @@ fn cross(p: [i64; 3], q: [i64; 3]) -> [i64; 3]
 
 // The normal of the plane through a, b and c.
 pub fn normal(points: &[i32], a: u16, b: u16, c: u16) -> [i64; 3]
-    requires { ⌜ InRange (now points) ⌝ }
+    requires { ⌜ Ranged (now points) ⌝ }
     requires { ⌜ Vertex (now points) a × Vertex (now points) b × Vertex (now points) c ⌝ }
     ensures { λ r. ⌜ (r ≡ normalOf (now (points .entry)) a b c) × Row widest r ⌝ }
 {
@@ -181,7 +189,7 @@ fn is_nought(n: [i64; 3]) -> bool
 
 // Whether a, b and c lie in line: their plane's normal is nought.
 pub fn in_line(points: &[i32], a: u16, b: u16, c: u16) -> bool
-    requires { ⌜ InRange (now points) ⌝ }
+    requires { ⌜ Ranged (now points) ⌝ }
     requires { ⌜ Vertex (now points) a × Vertex (now points) b × Vertex (now points) c ⌝ }
     ensures { λ r. ⌜ r ≡ inLine (now (points .entry)) a b c ⌝ }
 {
@@ -190,7 +198,7 @@ pub fn in_line(points: &[i32], a: u16, b: u16, c: u16) -> bool
 
 // Whether c lies strictly left of the edge from a to b, seen against the normal n.
 pub fn is_left(points: &[i32], n: [i64; 3], a: u16, b: u16, c: u16) -> bool
-    requires { ⌜ InRange (now points) × Row widest n ⌝ }
+    requires { ⌜ Ranged (now points) × Row widest n ⌝ }
     requires { ⌜ Vertex (now points) a × Vertex (now points) b × Vertex (now points) c ⌝ }
     ensures { λ r. ⌜ r ≡ isLeft (now (points .entry)) n a b c ⌝ }
 {

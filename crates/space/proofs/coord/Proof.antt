@@ -1,12 +1,13 @@
 -- `space::coord` meets its contract. Assumes nothing.
-use borrow.Author.Needs.{needs}
+use borrow.Author.Needs.{needs, sfits-of}
+use mir.Facts.{toZ-ofZ}
 use Rattle.space.specs.Points.{coordOf}
 use Rattle.space.proofs.coord.Statement.{statement}
 use Rattle.space.proofs.coord.Tie as tie
 
 returns : tie.Need-returns
 unfolding coordOf
-returns c = search needs
+returns c = toZ-ofZ (sfits-of (c .result .given))
 
 pub coord-spec : {M : Type 1} → statement M
-coord-spec = tie.close (tie.spec (λ c. search needs) (λ c. search needs) (λ c κs. search needs) returns)
+coord-spec = tie.close (tie.spec (λ c. search needs) (λ c. search needs) (λ c. search needs) (λ c. search needs) returns)

@@ -13,14 +13,14 @@ use Rattle.space.proofs.step.Tie as tie
 
 sub-result : tie.Need-sub-result
 sub-result c =
-    let s : Small (c .before .coord .result ∷ c .coord2 .result ∷ []) (same 2 8191) = omega arith in
+    let s : Small (c .before .wide .result ∷ c .wide2 .result ∷ []) (same 2 8191) = omega arith in
     fits w64 s (var 0 ⊖ var 1) tt 0
 
 returns : tie.Need-returns
 unfolding stepOf
 returns c =
-    let s : Small (c .before .coord .result ∷ c .coord2 .result ∷ []) (same 2 8191) = omega arith in
-    (reads w64 s (var 0 ⊖ var 1) tt ∙ ap₂ _-ℤ_ (c .before .coord .ensures .0) (c .coord2 .ensures .0), reads-within w64 s (var 0 ⊖ var 1) tt)
+    let s : Small (c .before .wide .result ∷ c .wide2 .result ∷ []) (same 2 8191) = omega arith in
+    (reads w64 s (var 0 ⊖ var 1) tt ∙ ap₂ _-ℤ_ (c .before .wide .ensures .0) (c .wide2 .ensures .0), reads-within w64 s (var 0 ⊖ var 1) tt)
 
 pub step-spec : {M : Type 1} → statement M
 step-spec =
