@@ -9,7 +9,7 @@ use native.Mathlib.Decide.{decLt}
 use lib.Dec.{eqb, ltb}
 use lib.ListN.{getD}
 use borrow.Author.Tests.{eqb-true, eq-eqb, ne-eqb, eqb-false, ltb-true, lt-ltb, not-true, not-false}
-use Rattle.whole.specs.First.{firstBelow, anyBelow, first-holds, first-le, never, none-all}
+use Rattle.whole.specs.First.{firstBelow, anyBelow, any-is, first-holds, first-le, never, none-all}
 use Rattle.whole.specs.Count.{bit, bit-le, countBelow, count-but, count-le, but, but-other, both}
 
 -- a table of the values of f below m
@@ -53,12 +53,6 @@ pub data Reached (n : ℕ) (a b : ℕ → ℕ) : ℕ → Type 0 where
 or-cases : (x y : Bool) → (x || y) ≡ true → (x ≡ true) ⊎ (y ≡ true)
 or-cases true y e = inl refl
 or-cases false y e = inr e
-
-any-is : (f : ℕ → Bool) (n p : ℕ) → p < n → f p ≡ true → anyBelow f n ≡ true
-any-is f n p l e = elim (decLt (firstBelow f n) n) [
-  | yes b ↦ lt-ltb _ _ b
-  | no b ↦ absurd (true≢false (sym e ∙ never f n (omega arith) p l))
-]
 
 bit-mono : (x y : Bool) → (x ≡ true → y ≡ true) → bit x ≤ bit y
 bit-mono true y h = rw (h refl) (omega arith)
