@@ -6,7 +6,7 @@ use Rattle.whole.specs.First.{None, none-0, miss}
 use Rattle.tables.specs.Tables.{facets, sides, facetOf}
 use Rattle.tables.specs.Found.{somewhere, within, facet-hit, facet-miss}
 use Rattle.tables.specs.Places.{part-length}
-use Rattle.tables.specs.Rules.{again}
+use Rattle.tables.specs.Tables.{again}
 use Rattle.tables.specs.declared.Found.the-variants.{Nothing}
 use Rattle.tables.proofs.repeat.Statement.{statement}
 use Rattle.tables.proofs.repeat.Tie as tie
