@@ -27,8 +27,10 @@ macro_rules! wrongs {
 
 wrongs! {
     NeverOutside "never-outside",
+    OutsideFirstFacetOnly "outside-first-facet-only",
     NeverRing "never-ring",
     NeverTurn "never-turn",
+    SizesIn16Bits "sizes-in-16-bits",
     SwappedPlaces "swapped-places",
     OneMove "one-move",
     HighestOfEquals "highest-of-equals",
@@ -49,9 +51,15 @@ impl Library for Wrong {
     }
 
     fn judge(&self, t: Lent, out: &mut [i64]) -> u16 {
+        let mut t = t;
+        if *self == Wrong::SizesIn16Bits {
+            t.corners = &t.corners[..t.corners.len() % (1 << 16)];
+            t.begins = &t.begins[..t.begins.len() % (1 << 16)];
+        }
         let number = Independent.judge(t, out);
         let forgotten = match self {
             Wrong::NeverOutside => number == 12,
+            Wrong::OutsideFirstFacetOnly => number == 12 && out.first().is_some_and(|&f| f > 0),
             Wrong::NeverRing => number == 7,
             Wrong::NeverTurn => number == 10,
             _ => false,
@@ -227,7 +235,7 @@ mod tests {
     #[test]
     fn every_wrong_library_is_found_and_shrunk() {
         for &wrong in Wrong::ALL {
-            let found = (0..4000)
+            let found = (0..20_000)
                 .map(|i| case_of(5, i))
                 .find(|case| confront(&Independent, &wrong, case).is_err());
             let case = found.unwrap_or_else(|| panic!("{} is not found", wrong.label()));

@@ -232,7 +232,7 @@ pub fn index(corners: &[u16], begins: &[u16], n: usize) -> Found
 // The position after p in a circuit of n.
 pub fn next_position(n: usize, p: usize) -> usize
     requires { ⌜ p < n ⌝ }
-    ensures { λ r. ⌜ r ≡ nextPosition n p ⌝ }
+    ensures { λ r. ⌜ (r ≡ nextPosition n p) × (r < n) ⌝ }
 {
     let on = p + 1;
     if on == n {
