@@ -1,9 +1,9 @@
 -- A direction in which no two points of a box are equally high, and in which the height along n decides first. Assumes nothing.
 use mathlib.Core.Path.{_≡_, _∙_, sym}
 use Prim.Native.Nat.{ℕ}
-use lib.IntN.{ℤ, pos, _+ℤ_}
+use lib.IntN.{ℤ, pos}
 use lib.Signed.{_<ℤ_}
-use Rattle.whole.specs.Solver.{num, neg, _⊕_, _≐_, solve}
+use Rattle.whole.specs.Solver.{num, neg, _≐_, solve}
 use Rattle.whole.specs.Order.{_≼_, _≺_, _≃_, _⇒_, _since_, hyp, by, _⊞_, _⊠_, prove, ≤-antisym, never, not-lt, not-le, clash, eq→le}
 use Rattle.whole.specs.Formula.{Ops, ints, exprs}
 use Rattle.whole.specs.Bounds.{_within_, within-low, within-high}
@@ -11,10 +11,13 @@ use Rattle.space.specs.Vec.{Vec, vec, dot}
 use Rattle.space.specs.Vectors.{_·_}
 use Rattle.solid.specs.Box.{Box}
 
--- ---- numbers h (c + 1) + l, whose last digit l is within c: h decides the sign
+-- ---- numbers h B + l whose last digit l is within c, to the base B = c + 1: h decides the sign
+
+abbrev baseᵒ {ℓ} : (O : Ops {ℓ}) → (one c : O .C) → O .C
+baseᵒ O one c = O .plus c one
 
 abbrev shiftᵒ {ℓ} : (O : Ops {ℓ}) → (one c h l : O .C) → O .C
-shiftᵒ O one c h l = O .plus (O .times h (O .plus c one)) l
+shiftᵒ O one c h l = O .plus (O .times h (baseᵒ O one c)) l
 
 unfoldable shift : ℤ → ℤ → ℤ → ℤ
 shift c h l = shiftᵒ ints (pos 1) c h l
@@ -38,7 +41,7 @@ module _ {b : ℕ} {l : ℤ} (s : l within b) (h : ℤ) where
   last-0 : shift (pos b) h l ≡ pos 0 → l ≡ pos 0
   unfolding shift
   last-0 e = prove 3 (λ c l h. let o = num (pos 0) in h ≃ o ⇒ λ i. shiftᵒ exprs (num (pos 1)) c h l ≃ o ⇒ λ e.
-      l ≃ o since by (num (pos 1)) e ⊞ by (neg (c ⊕ num (pos 1))) i) tt (pos b) l h (head-0 e) e
+      l ≃ o since by (num (pos 1)) e ⊞ by (neg (baseᵒ exprs (num (pos 1)) c)) i) tt (pos b) l h (head-0 e) e
 
 -- ---- the key, a number of four digits: the height along n, then x, y and z
 
@@ -50,7 +53,7 @@ keyᵒ O B one n = record {
 }
 
 unfoldable pub key : ℤ → Vec ℤ → Vec ℤ
-key c n = keyᵒ ints (c +ℤ pos 1) (pos 1) n
+key c n = keyᵒ ints (baseᵒ ints (pos 1) c) (pos 1) n
 
 digits : (c : ℤ) (n r : Vec ℤ) → key c n · r ≡ shift c (shift c (shift c (n · r) (r .x)) (r .y)) (r .z)
 unfolding key shift _·_
@@ -59,7 +62,7 @@ digits c n r = solve 7 (λ c nx ny nz x y z.
     let n = vec nx ny nz in
     let r = vec x y z in
     let shiftᵉ = shiftᵒ exprs one c in
-    dot exprs (keyᵒ exprs (c ⊕ one) one n) r ≐ shiftᵉ (shiftᵉ (shiftᵉ (dot exprs n r) x) y) z) tt c (n .x) (n .y) (n .z) (r .x) (r .y) (r .z)
+    dot exprs (keyᵒ exprs (baseᵒ exprs one c) one n) r ≐ shiftᵉ (shiftᵉ (shiftᵉ (dot exprs n r) x) y) z) tt c (n .x) (n .y) (n .z) (r .x) (r .y) (r .z)
 
 module _ {b : ℕ} {r : Vec ℤ} (B : Box b r) (n : Vec ℤ) where
   pub key-higher : pos 0 <ℤ n · r → pos 0 <ℤ key (pos b) n · r

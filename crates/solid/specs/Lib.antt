@@ -1,3 +1,4 @@
+-- The theorems on a closed surface of flat facets: `Tables` and `Theorems` state them of a solid's tables, the others prove them of any surface.
 pub mod Left
 pub mod Reach
 pub mod Surface
@@ -20,3 +21,9 @@ pub mod Local
 pub mod Generic
 pub mod Peel
 pub mod LocalGlobal
+pub mod Tables
+pub mod Circuit
+pub mod Places
+pub mod Theorems
+pub mod Decide
+pub mod Tetra
