@@ -27,8 +27,9 @@ module _ {u w x y : ℤ} (h : pos 0 <ℤ u) (i : w ≤ℤ pos 0) (j : y ≤ℤ p
   slope-< = prove 4 (λ u w x y. let o = num (pos 0) in
       o ≺ u ⇒ λ h. w ≼ o ⇒ λ i. y ≼ o ⇒ λ j. x ≺ o ⇒ λ k. u ⊗ x ⊖ w ⊗ y ≺ o since hyp h ⊠ hyp k ⊞ hyp h ⊞ hyp k ⊞ hyp i ⊠ hyp j) tt u w x y h i j
 
--- a second wedge, with the normal m, is crossed at y′: m · y and n · y′ have opposite signs. So a′ is not below the plane of the first
-pub one-crossing : {n m a b a′ b′ : Vec ℤ} → Left n a b → Left m a′ b′ → (d : Vec ℤ) → d · a ≤ℤ pos 0 → pos 0 <ℤ d · b → d · a′ ≤ℤ pos 0 → pos 0 <ℤ d · b′
+-- a second wedge, with the normal m, is crossed at y′: m · y and n · y′ have opposite signs, so a′ is not below the plane of the first
+pub one-crossing : {n m a b a′ b′ : Vec ℤ} → Left n a b → Left m a′ b′ → (d : Vec ℤ)
+    → d · a ≤ℤ pos 0 → pos 0 <ℤ d · b → d · a′ ≤ℤ pos 0 → pos 0 <ℤ d · b′
     → m · a ≤ℤ pos 0 → m · b ≤ℤ pos 0 → n · b′ ≤ℤ pos 0 → pos 0 ≤ℤ n · a′
 one-crossing {n} {m} {a} {b} {a′} {b′} t s d da db da′ db′ ma mb nb′ =
     not-lt (λ na′. clash

@@ -19,7 +19,7 @@ module _ {P F : Type 0} {M : Surface P F} (L : Local M) (n : Vec ℤ) where
   open Surface M using (Corner, Edge, at, normal, same?, starts, next, no-return, turn)
   open Local L using (limit, in-box)
 
-  -- differences of two points are within twice the limit
+  -- two points differ by twice the limit at most
   abbrev pub along : Vec ℤ
   along = key (pos (limit + limit)) n
 

@@ -1,4 +1,4 @@
--- A closed surface of flat facets, however its tables are stored: what the rules 4, 6, 7, 9 and 10 say of its facets, edges and points. Assumes nothing.
+-- A closed surface of flat facets, however its tables are stored: what SIZE, REPEAT, PAIR, RING, BENT and TURN say of it. Assumes nothing.
 -- P and F are any types whose values name vertices and facets, as ℕ: a vertex is what is a corner of some facet (UNUSED), a facet what has a corner.
 use mathlib.Core.Path.{_≡_, sym, subst}
 use mathlib.Core.Logic.{_≢_}

@@ -1,5 +1,5 @@
 -- A solid's tables in plain quantifiers, what the judge's numbers ask of them, and demand 2's sentence. Assumes nothing.
--- Each record below says that its rules refuse nothing. A vertex is "other than" another by its number, never by its point.
+-- A record that cites a number says that the rule of that number refuses nothing. Vertices are "other than" each other by number, never by point.
 use mathlib.Core.Path.{_≡_}
 use mathlib.Core.Logic.{_≢_}
 use mathlib.Core.Bool.{cond}
@@ -69,7 +69,7 @@ module _ (t : Tables) where
   abbrev pub OnPlane : ℕ → ℕ → Type 0
   OnPlane f w = volume f w ≡ pos 0
 
-  -- ---- the sizes, of which the theorems need this much
+  -- ---- "a solid within the sheet's limits", as far as the theorems need them
 
   pub record Sized : Type 0 where
     -- 1 SIZE: there are 4 facets or more, and each has 3 corners or more
@@ -112,19 +112,22 @@ module _ (t : Tables) where
     -- 12 OUTSIDE: each vertex that isn't a corner of the facet is strictly inside its plane
     pub inside : (f w : ℕ) → f < facets → w < vertices → ¬ Corner f w → Inside f w
 
-  -- "the closed surface of a convex polytope .. made strict by our rule sheet: closed as its numbers 4 to 8 ask, flat convex facets, every other corner strictly inside each facet's plane"
+  -- "the closed surface of a convex polytope as Devillers, Liotta, Preparata and Tamassia use the term, made strict by our rule sheet:
+  -- closed as its numbers 4 to 8 ask, flat convex facets, every other corner strictly inside each facet's plane"
   pub record Convex : Type 0 where
     pub closed : Closed
     pub flat : Flat
     pub outside : Outside
 
-  -- ---- what the judge asks besides: Lemma R makes the first a consequence, and the second does the work of OUTSIDE
+  -- ---- what the judge asks besides
 
+  -- no edge is reflex: every convex solid has this (Lemma R)
   pub record Reflex : Type 0 where
-    -- 11 REFLEX: position j of g is the reverse of the edge at position i of f; each corner of g other than the edge's ends is strictly inside f's plane
+    -- 11 REFLEX: position j of g names the reverse of the edge at position i of f; each corner of g other than the edge's ends is strictly inside f's plane
     pub reflex : {f i g j m : ℕ} → Place f i → Place g j → corner g j ≡ next f i → next g j ≡ corner f i
         → Place g m → corner g m ≢ corner f i → corner g m ≢ next f i → Inside f (corner g m)
 
+  -- N, which does the work of OUTSIDE with fewer tests
   pub record Neighbours : Type 0 where
-    -- N: positions i of f and j of g have the same corner; its neighbour, the corner after position j, is a corner of f or strictly inside f's plane
+    -- positions i of f and j of g have the same corner; its neighbour, the corner after position j, is a corner of f or strictly inside f's plane
     pub neighbour : {f i g j : ℕ} → Place f i → Place g j → corner g j ≡ corner f i → ¬ Corner f (next g j) → Inside f (next g j)

@@ -1,4 +1,4 @@
--- The theorems on a solid's tables, by places and numbers. Assumes nothing.
+-- The theorems on a solid's tables, for demands 2 and 3. Assumes nothing.
 use mathlib.Core.Path.{_≡_, refl, sym, _∙_}
 use mathlib.Core.Logic.{_≢_, _↔_}
 use Prim.Native.Nat.{ℕ, _<_}
@@ -40,7 +40,7 @@ module _ {t : Tables} (S : Sized t) where
     body : Solid M
     body = solid t S closed flat outside
 
-    -- Lemma R
+    -- Lemma R: REFLEX refuses no convex solid
     pub no-reflex : Reflex t
     no-reflex = record {
       reflex = λ p q s z k ca cb. rw (← volume-is) (Lemma-R.near body .reflex (record { i = _; place = p; from = refl; to = refl })

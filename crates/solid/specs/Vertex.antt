@@ -20,12 +20,12 @@ module _ {P F : Type 0} {M : Surface P F} (N : Near M) where
 
     -- L5: an edge from a corner of f to v is no diagonal of f
     module _ {g : F} {u : P} (cu : Corner f u) (e : Edge g u v) where
-      module _ (up : u ≢ p) (uq : u ≢ q) where
+      module _ (not-p : u ≢ p) (not-q : u ≢ q) where
         left-of-q : Left (normal f) (at q - at v) (at u - at v)
-        left-of-q = from-start M out cu (no-loop M e) uq
+        left-of-q = from-start M out cu (no-loop M e) not-q
 
         right-of-p : Left (normal f) (at u - at v) (at p - at v)
-        right-of-p = from-end M into cu up (no-loop M e)
+        right-of-p = from-end M into cu not-p (no-loop M e)
 
         -- the plane of g holds u, and has neither q nor p above it: it holds both
         held : Corner g q × Corner g p
@@ -39,7 +39,7 @@ module _ {P F : Type 0} {M : Surface P F} (N : Near M) where
         -- but there u → v has both on its left
         diagonal : ⊥
         diagonal = not-left-of-both left-of-q right-of-p (wedge M into out)
-            (from-end M e (held .0) (λ s. uq (sym s)) (λ s. no-loop M out (sym s))) (from-end M e (held .1) (λ s. up (sym s)) (no-loop M into))
+            (from-end M e (held .0) (λ s. not-q (sym s)) (λ s. no-loop M out (sym s))) (from-end M e (held .1) (λ s. not-p (sym s)) (no-loop M into))
 
       pub no-diagonal : (u ≡ p) ⊎ (u ≡ q)
-      no-diagonal = elim (same? u p) [ yes s ↦ inl s | no up ↦ elim (same? u q) [ yes s ↦ inr s | no uq ↦ absurd (diagonal up uq) ] ]
+      no-diagonal = elim (same? u p) [ yes s ↦ inl s | no not-p ↦ elim (same? u q) [ yes s ↦ inr s | no not-q ↦ absurd (diagonal not-p not-q) ] ]

@@ -20,7 +20,8 @@ module _ {P F : Type 0} (M : Surface P F) where
     wedge = from-start M out (starts into) (no-loop M into) sides-differ
 
     -- what is positive at neither side is so at no corner
-    pub sides-bound : {c : P} → Corner f c → c ≢ v → (l : Vec ℤ) → l · (at q - at v) ≤ℤ pos 0 → l · (at p - at v) ≤ℤ pos 0 → l · (at c - at v) ≤ℤ pos 0
+    pub sides-bound : {c : P} → Corner f c → c ≢ v → (l : Vec ℤ)
+        → l · (at q - at v) ≤ℤ pos 0 → l · (at p - at v) ≤ℤ pos 0 → l · (at c - at v) ≤ℤ pos 0
     sides-bound {c} k cv l lq lp = elim (same? c p) [
       | yes s ↦ subst (λ c. l · (at c - at v) ≤ℤ pos 0) (sym s) lp
       | no cp ↦ elim (same? c q) [
