@@ -234,7 +234,7 @@ impl<'a> Solid<'a> {
             for p in 0..facet.len() {
                 let q = (p + 1) % facet.len();
                 let a = self.point(facet[p]);
-                // The edge's inward direction in the plane turns the test into one product a corner.
+                // The edge's inward direction in the plane leaves one product a corner.
                 let inward = cross(normal, sub(self.point(facet[q]), a));
                 for (r, &c) in facet.iter().enumerate() {
                     if r != p && r != q && dot(inward, sub(self.point(c), a)) <= 0 {

@@ -65,8 +65,7 @@ mod abi {
 
 pub struct Proved;
 
-// SAFETY of every call: each pointer and length come from one live slice, and the library keeps
-// none of them after it returns.
+// SAFETY of every call: each pointer and length come from one live slice, and none is kept.
 impl Library for Proved {
     fn name(&self) -> &str {
         "proved"

@@ -9,7 +9,7 @@ use std::process::ExitCode;
 use std::time::{Duration, Instant};
 
 const VERTICES: [usize; 4] = [16, 64, 256, 1024];
-// More than about 2,270 points within the limits cannot be strictly convex, so the longest winds twice.
+// Within the limits no strictly convex outline has 4,096 points, so the longest winds twice.
 const OUTLINES: [usize; 3] = [64, 512, 4096];
 const SAMPLES: usize = 9;
 const SAMPLE: Duration = Duration::from_millis(20);
@@ -112,7 +112,7 @@ fn solid_rows(libraries: &[&dyn Library; 2], vertices: usize, t: &Tables, rows: 
     }));
 }
 
-/// A convex outline, or for the longest one a convex outline run twice whose second far point is last.
+/// A convex outline, or a convex outline run twice whose second far point is the last point.
 fn outline_of(rng: &mut Rng, count: usize) -> Vec<i32> {
     let once = if count > 2200 { count / 2 } else { count };
     let mut points = polygon::many(rng, once);

@@ -11,7 +11,8 @@ use independent::number::COUNT_OF_NUMBERS;
 use std::process::ExitCode;
 use std::time::{Duration, Instant, SystemTime, UNIX_EPOCH};
 
-const USAGE: &str = "compare [--seed N] [--cases N] [--seconds N] [--self | --plain | --wrong NAME]
+const USAGE: &str =
+    "compare [--seed N] [--first N] [--cases N] [--seconds N] [--self | --plain | --wrong NAME]
 
 Without --self, --plain or --wrong the proved library is compared; it is linked when
 SOLID_LIB_DIR is set at build time.";
@@ -22,6 +23,7 @@ const LOOK_AHEAD: u64 = 3000;
 
 struct Options {
     seed: u64,
+    first: u64,
     cases: u64,
     seconds: Option<u64>,
     other: Box<dyn Library>,
@@ -37,6 +39,7 @@ fn main() -> ExitCode {
     };
     let Options {
         seed,
+        first,
         cases,
         seconds,
         other,
@@ -50,7 +53,8 @@ fn main() -> ExitCode {
         if seconds.is_some_and(|bound| began.elapsed() >= Duration::from_secs(bound)) {
             break;
         }
-        let case = case_of(seed, done);
+        let number = first + done;
+        let case = case_of(seed, number);
         match confront(&Independent, other.as_ref(), &case) {
             Ok(outcome) => {
                 kinds[kind(&case)] += 1;
@@ -59,7 +63,7 @@ fn main() -> ExitCode {
                 }
             }
             Err(difference) => {
-                show_difference(seed, done, &case, &difference, other.as_ref());
+                show_difference(seed, number, &case, &difference, other.as_ref());
                 return ExitCode::FAILURE;
             }
         }
@@ -89,6 +93,7 @@ fn main() -> ExitCode {
 fn options(mut words: impl Iterator<Item = String>) -> Result<Options, String> {
     let clock = SystemTime::now().duration_since(UNIX_EPOCH);
     let mut seed = clock.map_or(1, |time| time.as_nanos() as u64);
+    let mut first = 0;
     let mut cases = 20_000;
     let mut seconds = None;
     let mut other: Option<Box<dyn Library>> = None;
@@ -97,6 +102,7 @@ fn options(mut words: impl Iterator<Item = String>) -> Result<Options, String> {
         let number = |text: String| text.parse::<u64>().map_err(|e| format!("{text}: {e}"));
         match word.as_str() {
             "--seed" => seed = number(value()?)?,
+            "--first" => first = number(value()?)?,
             "--cases" => cases = number(value()?)?,
             "--seconds" => seconds = Some(number(value()?)?),
             "--self" => other = Some(Box::new(Independent)),
@@ -118,6 +124,7 @@ fn options(mut words: impl Iterator<Item = String>) -> Result<Options, String> {
     };
     Ok(Options {
         seed,
+        first,
         cases,
         seconds,
         other,

@@ -1,0 +1,224 @@
+//! One call of the library with all that is lent to it.
+
+use super::damage::{aimed_at, any_tables};
+use super::solids::Extent;
+use super::{outlines, tapes, Rng, Tables};
+use crate::number::ACCEPTED;
+
+/// A call and its input; `salt` fixes what the lent entries hold beforehand.
+#[derive(Clone, Debug, PartialEq, Eq)]
+pub enum Case {
+    Judge(Tables),
+    Walk {
+        tables: Tables,
+        start: u32,
+        direction: [i32; 3],
+        trail: Vec<u16>,
+    },
+    Outline(Vec<i32>),
+    Read {
+        tape: Vec<u8>,
+        rooms: [usize; 3],
+        salt: usize,
+    },
+    Write {
+        tables: Tables,
+        room: usize,
+        salt: usize,
+    },
+}
+
+/// What entry `i` of a lent table holds before the call.
+pub fn pattern(i: usize, salt: usize) -> u8 {
+    ((i + salt) % 251) as u8
+}
+
+/// Any case of any kind.
+pub fn any_case(rng: &mut Rng) -> Case {
+    match rng.below(20) {
+        0..=7 => Case::Judge(any_tables(rng)),
+        8..=11 => walk(rng),
+        12..=14 if rng.one_in(60) => Case::Outline(outlines::at_the_count_limit(rng)),
+        12..=14 => Case::Outline(outlines::any(rng)),
+        15..=17 => Case::Read {
+            tape: tapes::any(rng),
+            rooms: tapes::rooms(rng),
+            salt: rng.below(251),
+        },
+        _ => {
+            let tables = if rng.one_in(2) {
+                sound_tables(rng)
+            } else {
+                any_tables(rng)
+            };
+            let room = writer_room(&tables, rng);
+            Case::Write {
+                tables,
+                room,
+                salt: rng.below(251),
+            }
+        }
+    }
+}
+
+fn sound_tables(rng: &mut Rng) -> Tables {
+    let extent = match rng.below(60) {
+        0 => Extent::Large,
+        1..=4 => Extent::Medium,
+        _ => Extent::Small,
+    };
+    aimed_at(ACCEPTED, extent, rng)
+}
+
+/// Bytes lent to the writer: about what the tape needs.
+pub fn writer_room(tables: &Tables, rng: &mut Rng) -> usize {
+    let facets = tables.begins.len().saturating_sub(1);
+    let need = tables.points.len() / 3 * 7 + facets + 2 * tables.corners.len() + 5;
+    match rng.below(6) {
+        0 => need - 1,
+        1 => rng.below(need),
+        2 => need + rng.below(20),
+        3 => rng.pick(&[0, 1, 21_509, 21_510, (1 << 16) + 5]),
+        _ => need,
+    }
+}
+
+fn walk(rng: &mut Rng) -> Case {
+    let tables = if rng.one_in(6) {
+        any_tables(rng)
+    } else {
+        sound_tables(rng)
+    };
+    let (start, direction, length) = walk_input(&tables, rng);
+    Case::Walk {
+        tables,
+        start,
+        direction,
+        trail: (0..length).map(|_| rng.below(1 << 16) as u16).collect(),
+    }
+}
+
+/// A start, a direction and a trail's length for the tables, sound or not.
+pub fn walk_input(tables: &Tables, rng: &mut Rng) -> (u32, [i32; 3], usize) {
+    let vertices = tables.points.len() / 3;
+    let start = match rng.below(12) {
+        0 => rng.pick(&[
+            vertices as u32,
+            vertices as u32 + 1,
+            65_535,
+            65_536,
+            u32::MAX,
+        ]),
+        _ => rng.below(vertices.max(1)) as u32,
+    };
+    let mut direction = match rng.below(5) {
+        0 => [0; 3].map(|_: i32| rng.between(-1, 1)),
+        1 => [0; 3].map(|_: i32| rng.pick(&[-32767, 32767, 0])),
+        2 => [0; 3].map(|_: i32| rng.between(-32767, 32767)),
+        3 => rng.pick(&[
+            [1, 0, 0],
+            [-1, 0, 0],
+            [0, 1, 0],
+            [0, -1, 0],
+            [0, 0, 1],
+            [0, 0, -1],
+        ]),
+        _ => [0; 3].map(|_: i32| rng.between(-9, 9)),
+    };
+    if rng.one_in(10) {
+        let far = [32768, -32768, i32::MIN, i32::MAX, 65_536];
+        direction[rng.below(3)] = rng.pick(&far);
+    }
+    let length = match rng.below(10) {
+        0 => rng.pick(&[0, vertices / 2, vertices.saturating_sub(1)]),
+        1 => vertices + rng.below(9),
+        2 if rng.one_in(10) => (1 << 16) + rng.below(2),
+        _ => vertices,
+    };
+    (start, direction, length)
+}
+
+#[cfg(test)]
+mod tests {
+    use super::*;
+    use crate::generate::damage::at_a_size_limit;
+    use crate::number::*;
+    use crate::{judge, outline, read_tape, walk, write_tape};
+
+    #[test]
+    fn every_number_occurs() {
+        let mut rng = Rng::new(6);
+        let mut counts = [0; COUNT_OF_NUMBERS];
+        for _ in 0..3000 {
+            let number = match any_case(&mut rng) {
+                Case::Judge(t) => judge(&t.points, &t.corners, &t.begins)[0],
+                Case::Walk {
+                    tables: t,
+                    start,
+                    direction,
+                    mut trail,
+                } => {
+                    let before = trail.clone();
+                    let ([number, ..], _, _, moves) = walk(
+                        &t.points, &t.corners, &t.begins, direction, start, &mut trail,
+                    );
+                    let kept = if number == ACCEPTED {
+                        moves as usize + 1
+                    } else {
+                        0
+                    };
+                    assert_eq!(before[kept..], trail[kept..]);
+                    number
+                }
+                Case::Outline(points) => outline(&points).0,
+                Case::Read { tape, rooms, .. } => {
+                    let [p, c, b] = rooms;
+                    read_tape(&tape, &mut vec![0; p], &mut vec![0; c], &mut vec![0; b]).0
+                }
+                Case::Write {
+                    tables: t, room, ..
+                } => write_tape(&t.points, &t.corners, &t.begins, &mut vec![0; room]).0,
+            };
+            counts[number as usize] += 1;
+        }
+        assert!(counts.iter().all(|&n| n > 5), "{counts:?}");
+    }
+
+    #[test]
+    fn size_limits_are_met() {
+        let mut rng = Rng::new(7);
+        let sizes = (0..30).filter(|_| {
+            let t = at_a_size_limit(&mut rng);
+            judge(&t.points, &t.corners, &t.begins)[0] == SIZE
+        });
+        assert!((5..25).contains(&sizes.count()));
+    }
+
+    #[test]
+    fn tapes_read_and_written_again_are_the_same() {
+        let mut rng = Rng::new(8);
+        let mut same = 0;
+        for _ in 0..300 {
+            let tape = tapes::any_small(&mut rng);
+            let (mut points, mut corners, mut begins) =
+                (vec![0; 3072], vec![0; 6144], vec![0; 2049]);
+            let (number, sizes) = read_tape(&tape, &mut points, &mut corners, &mut begins);
+            if number != ACCEPTED {
+                continue;
+            }
+            let [v, f, c] = sizes.map(|n| n as usize);
+            let mut buffer = vec![0; tape.len()];
+            let written = write_tape(
+                &points[..3 * v],
+                &corners[..c],
+                &begins[..f + 1],
+                &mut buffer,
+            );
+            if written.0 == ACCEPTED {
+                assert_eq!((written.1[0] as usize, &buffer), (tape.len(), &tape));
+                same += 1;
+            }
+        }
+        assert!(same > 30);
+    }
+}

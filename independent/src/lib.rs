@@ -1,0 +1,19 @@
+//! A literal judge of convex solids, written from the rule sheet alone.
+
+pub mod generate;
+pub mod number;
+
+mod judge;
+mod outline;
+mod programs;
+mod tape;
+mod walk;
+
+#[cfg(test)]
+mod sheet_table;
+
+pub use judge::{facet, judge};
+pub use outline::outline;
+pub use programs::{judging_line, walking_line, LONGEST_INPUT, LONGEST_WORDS};
+pub use tape::{read_tape, write_tape, BEGIN_ROOM, CORNER_ROOM, POINT_ROOM};
+pub use walk::walk;
