@@ -1,12 +1,12 @@
 -- "Within it, the first place wins": searches for the first place at which a rule applies, and what their answers mean. Assumes nothing.
 use mathlib.Core.Path.{_≡_, refl, sym, _∙_, ap}
 use mathlib.Core.Bool.{Bool, true, false, cond, true≢false}
-use Prim.Native.Nat.{ℕ, _≤_, _<_}
+use Prim.Native.Nat.{ℕ, _+_, _≤_, _<_}
 use native.Mathlib.Nat.{le-refl}
 use native.Mathlib.Omega.{arith}
 use lib.Dec.{ltb}
-use borrow.Author.Tests.{lt-ltb, ltb-true, ltb-false}
-use Rattle.whole.specs.First.{firstBelow, anyBelow, pickBelow, None, none-all, never, first-holds, found, hit, miss, before-first, any-none, any-is}
+use borrow.Author.Tests.{lt-ltb, le-ltb, ltb-true, ltb-false}
+use Rattle.whole.specs.First.{firstBelow, anyBelow, pickBelow, None, none-more, none-all, never, first-holds, found, hit, miss, before-first, any-none, any-is}
 use Rattle.tables.specs.declared.Found.{Found}
 use Rattle.tables.specs.declared.Found.the-variants.{At, Nothing}
 
@@ -101,3 +101,19 @@ first-is {n} {sizes} {test} {f} {p} h =
 pub no-place-is : {n : ℕ} {sizes : ℕ → ℕ} {test : ℕ → ℕ → Bool} → NoPlace n sizes test → firstPlace n sizes test ≡ Nothing
 no-place-is {n} {sizes} {test} h =
     sym (miss (within sizes test) Nothing (none-all (somewhere sizes test) n (λ f l. any-none (test f) (sizes f) (λ p. h f p l))) (le-refl n) (le-refl n))
+
+-- ---- a loop over the facets: p is the first position of facet f at which the rule applies, or q, the number of its sides
+
+module _ (n : ℕ) (sizes : ℕ → ℕ) (test : ℕ → ℕ → Bool) {f p q : ℕ} (none : None (somewhere sizes test) f) (is : p ≡ firstBelow (test f) q) (size : q ≡ sizes f) where
+  all : p ≡ firstBelow (test f) (sizes f)
+  all = is ∙ ap (firstBelow (test f)) size
+
+  pub facet-hit : p < q → f < n → At f p ≡ firstPlace n sizes test
+  facet-hit l m =
+      let h : somewhere sizes test f ≡ true = lt-ltb _ _ (rw (all, size) at l) in
+      ap (At f) all ∙ hit (within sizes test) Nothing none h m
+
+  pub facet-miss : q ≤ p → None (somewhere sizes test) (f + 1)
+  facet-miss l =
+      let h : somewhere sizes test f ≡ false = le-ltb _ _ (rw (all, size) at l) in
+      none-more none h

@@ -50,34 +50,53 @@ pub record Sized (n : ℕ) (corners begins : List ℕ) : Type 0 where
   pub few : n ≤ mostVertices
   pub laid : Laid corners begins
 
+-- the lengths by themselves
+pub record Counted (points corners begins : ℕ) : Type 0 where
+  pub many : leastVertices ≤ points / 3
+  pub few : points / 3 ≤ mostVertices
+  pub some : leastFacets + 1 ≤ begins
+  pub most : begins ≤ mostFacets + 1
+  pub short : corners ≤ mostCorners
+
+pub counted : (points corners begins : ℕ) → wrongLengths points corners begins ≡ false → Counted points corners begins
+counted points corners begins e =
+    let few-v = ltb (points / 3) leastVertices in
+    let many-v = ltb mostVertices (points / 3) in
+    let few-f = ltb begins (leastFacets + 1) in
+    let many-f = ltb (mostFacets + 1) begins in
+    let many-c = ltb mostCorners corners in
+    let a = neither (not (eqb (points % 3) 0)) (few-v || (many-v || (few-f || (many-f || many-c)))) e in
+    let b = neither few-v (many-v || (few-f || (many-f || many-c))) (a .1) in
+    let c = neither many-v (few-f || (many-f || many-c)) (b .1) in
+    let d = neither few-f (many-f || many-c) (c .1) in
+    let f = neither many-f many-c (d .1) in
+    record {
+      many = ltb-false (points / 3) leastVertices (b .0);
+      few = ltb-false mostVertices (points / 3) (c .0);
+      some = ltb-false begins (leastFacets + 1) (d .0);
+      most = ltb-false (mostFacets + 1) begins (f .0);
+      short = ltb-false mostCorners corners (f .1);
+    }
+
 pub sized : (points : List ℤ) (corners begins : List ℕ) → isSize points corners begins ≡ false → Sized (vertices points) corners begins
 unfolding isSize
 sized points corners begins e =
-    let v = vertices points in
-    let b = length begins in
-    let threes = not (eqb (length points % 3) 0) in
-    let corners-many = ltb mostCorners (length corners) in
-    let facets-many = ltb (mostFacets + 1) b in
-    let facets-few = ltb b (leastFacets + 1) in
-    let vertices-many = ltb mostVertices v in
-    let vertices-few = ltb v leastVertices in
-    let lengths = neither (wrongLengths (length points) (length corners) b) (wrongEnds corners begins || anyBelow (wrongSides begins) (facets begins)) e in
-    let ends = neither (wrongEnds corners begins) (anyBelow (wrongSides begins) (facets begins)) (lengths .1) in
-    let tips = neither (not (eqb (begin begins 0) 0)) (not (eqb (getD begins (facets begins) 0) (length corners))) (ends .0) in
-    let l1 = neither threes (vertices-few || (vertices-many || (facets-few || (facets-many || corners-many)))) (lengths .0) in
-    let l2 = neither vertices-few (vertices-many || (facets-few || (facets-many || corners-many))) (l1 .1) in
-    let l3 = neither vertices-many (facets-few || (facets-many || corners-many)) (l2 .1) in
-    let l4 = neither facets-few (facets-many || corners-many) (l3 .1) in
-    let l5 = neither facets-many corners-many (l4 .1) in
+    let facet = anyBelow (wrongSides begins) (facets begins) in
+    let lengths = neither (wrongLengths (length points) (length corners) (length begins)) (wrongEnds corners begins || facet) e in
+    let ends = neither (wrongEnds corners begins) facet (lengths .1) in
+    let start = eqb (begin begins 0) 0 in
+    let finish = eqb (getD begins (facets begins) 0) (length corners) in
+    let tips = neither (not start) (not finish) (ends .0) in
+    let k = counted (length points) (length corners) (length begins) (lengths .0) in
     record {
-      many = ltb-false v leastVertices (l2 .0);
-      few = ltb-false mostVertices v (l3 .0);
+      many = k .many;
+      few = k .few;
       laid = record {
-        some = ltb-false b (leastFacets + 1) (l4 .0);
-        most = ltb-false (mostFacets + 1) b (l5 .0);
-        short = ltb-false mostCorners (length corners) (l5 .1);
-        start = eqb-true (begin begins 0) 0 (not-false (eqb (begin begins 0) 0) (tips .0));
-        finish = eqb-true _ _ (not-false (eqb (getD begins (facets begins) 0) (length corners)) (tips .1));
+        some = k .some;
+        most = k .most;
+        short = k .short;
+        start = eqb-true (begin begins 0) 0 (not-false start (tips .0));
+        finish = eqb-true _ _ (not-false finish (tips .1));
         rise = λ f l. sides-right f (ends .1) l .0;
         narrow = λ f l. sides-right f (ends .1) l .1;
       };

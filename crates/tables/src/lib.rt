@@ -98,7 +98,7 @@ fn wrong_ends(corners: &[u16], begins: &[u16]) -> bool
 
 // A corner number or a begin as a place.
 pub fn wide(x: u16) -> usize
-    ensures { λ r. ⌜ r ≡ x ⌝ }
+    ensures { λ r. ⌜ (r ≡ x) × (r < 65536) ⌝ }
 {
     x as usize
 }
