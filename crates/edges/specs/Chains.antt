@@ -53,7 +53,7 @@ chains-more {corners} {last} {back} {n} c b l =
       heads = record {
         long = k;
         at = λ v h. rw last-more (head corners last n v (eqb (from corners n) v) (rw (c .heads .long) b) refl (c .heads .at v h));
-        rest = λ v h. List·getD-eq-default _ 0 (rw k h);
+        rest = λ v h. List·getD-eq-default (set last (from corners n) (n + 1)) 0 {n = v} (rw k h);
       };
       links = filled-more _ (c .links) l (c .heads .at (from corners n) b);
     }
@@ -70,7 +70,7 @@ pub record Link (corners : List ℕ) (v : ℕ) (f : ℕ → Bool) (m q : ℕ) : 
   pub leads : 0 < q → from corners (q - 1) ≡ v
   pub alike : Alike f q m
 
-link : (corners : List ℕ) (v m : ℕ) {f : ℕ → Bool} → Within corners v f → Link corners v f m (lastOf corners m v)
+pub link : (corners : List ℕ) (v m : ℕ) {f : ℕ → Bool} → Within corners v f → Link corners v f m (lastOf corners m v)
 link corners v m {f} w =
     let l = last (leaves corners v) m in
     record {
@@ -94,21 +94,21 @@ unfolding countBelow
 met-all {f = f} {q = q} m l = let z : q ≡ 0 = omega arith in omega (arith, m .sum, ap (countBelow f) z)
 
 -- it held at none of them
-pub record Sought (corners : List ℕ) (v : ℕ) (f : ℕ → Bool) (q : ℕ) : Type 0 where
+pub record Unmet (corners : List ℕ) (v : ℕ) (f : ℕ → Bool) (q : ℕ) : Type 0 where
   pub only : Within corners v f
   pub upto : q ≤ length corners
   pub leads : 0 < q → from corners (q - 1) ≡ v
   pub rest : lastBelow f q ≡ lastBelow f (length corners)
 
-pub sought-here : {corners : List ℕ} {v : ℕ} {f : ℕ → Bool} {q : ℕ} → Sought corners v f q → 0 < q → f (q - 1) ≡ true → q ≡ lastBelow f (length corners)
-sought-here {f = f} {q = q} s h e =
+pub unmet-here : {corners : List ℕ} {v : ℕ} {f : ℕ → Bool} {q : ℕ} → Unmet corners v f q → 0 < q → f (q - 1) ≡ true → q ≡ lastBelow f (length corners)
+unmet-here {f = f} {q = q} s h e =
     let z : q - 1 + 1 ≡ q = omega arith in
     let k = rw e at (last-more f (q - 1)) in
     sym z ∙ sym k ∙ ap (lastBelow f) z ∙ s .rest
 
-pub sought-none : {corners : List ℕ} {v : ℕ} {f : ℕ → Bool} {q : ℕ} → Sought corners v f q → q ≤ 0 → 0 ≡ lastBelow f (length corners)
+pub unmet-none : {corners : List ℕ} {v : ℕ} {f : ℕ → Bool} {q : ℕ} → Unmet corners v f q → q ≤ 0 → 0 ≡ lastBelow f (length corners)
 unfolding lastBelow
-sought-none {q = q} s l = let z : q ≡ 0 = omega arith in rw z at (s .rest)
+unmet-none {q = q} s l = let z : q ≡ 0 = omega arith in rw z at (s .rest)
 
 module _ {corners last back : List ℕ} (C : Chains corners last back (length corners)) {v : ℕ} {f : ℕ → Bool} where
   pub first-link : Within corners v f → v < 1024 → Link corners v f (length corners) (getD last v 0)
@@ -134,15 +134,15 @@ module _ {corners last back : List ℕ} (C : Chains corners last back (length co
 
   -- ---- searching
 
-  pub sought-0 : Within corners v f → v < 1024 → Sought corners v f (getD last v 0)
-  sought-0 w l = let k = first-link w l in record { only = w; upto = k .upto; leads = k .leads; rest = sym (k .alike .last) }
+  pub unmet-0 : Within corners v f → v < 1024 → Unmet corners v f (getD last v 0)
+  unmet-0 w l = let k = first-link w l in record { only = w; upto = k .upto; leads = k .leads; rest = sym (k .alike .last) }
 
-  pub sought-link : {q : ℕ} → 0 < q → Sought corners v f q → Link corners v f (q - 1) (getD back (q - 1) 0)
-  sought-link h s = next-link (s .only) h (s .upto) (s .leads h)
+  pub unmet-link : {q : ℕ} → 0 < q → Unmet corners v f q → Link corners v f (q - 1) (getD back (q - 1) 0)
+  unmet-link h s = next-link (s .only) h (s .upto) (s .leads h)
 
-  pub sought-more : {q : ℕ} → 0 < q → Sought corners v f q → f (q - 1) ≡ false → Sought corners v f (getD back (q - 1) 0)
-  sought-more {q} h s e =
-      let k = sought-link h s in
+  pub unmet-more : {q : ℕ} → 0 < q → Unmet corners v f q → f (q - 1) ≡ false → Unmet corners v f (getD back (q - 1) 0)
+  unmet-more {q} h s e =
+      let k = unmet-link h s in
       let z : q - 1 + 1 ≡ q = omega arith in
       let m = rw e at (last-more f (q - 1)) in
       record {
