@@ -1,5 +1,5 @@
 -- The facet of each place, in one pass over the run. Assumes nothing.
-use mathlib.Core.Path.{_≡_, refl}
+use mathlib.Core.Path.{_≡_, refl, ap}
 use mathlib.Core.Bool.{Bool, true, false, cond}
 use mathlib.Core.List.{List}
 use Prim.Native.Nat.{ℕ, _+_, _-_, _≤_, _<_}
@@ -9,7 +9,7 @@ use lib.Dec.{eqb}
 use lib.ListN.{length, getD}
 use borrow.Author.Tests.{eqb-true, eqb-false}
 use Rattle.whole.specs.Filled.{Filled}
-use Rattle.tables.specs.Tables.{begin, end, homeOf}
+use Rattle.tables.specs.Tables.{begin, end, homeOf, nextIn, nextOf}
 use Rattle.tables.specs.Size.{Laid}
 use Rattle.tables.specs.Places.{In, home}
 
@@ -18,12 +18,13 @@ pub record Homes (corners begins home : List ℕ) : Type 0 where
   pub laid : Laid corners begins
   pub filled : Filled 6144 home (homeOf begins) (length corners)
 
-module _ {corners begins table : List ℕ} {p : ℕ} (H : Homes corners begins table) (l : p < length corners) where
+module _ {corners begins table : List ℕ} (H : Homes corners begins table) {p : ℕ} (l : p < length corners) where
   pub home-entry : In begins (getD table p 0) p
   home-entry = rw (H .filled .at p l) (home (H .laid) l)
 
-  pub home-small : getD table p 0 < 2048
-  home-small = omega (arith, home-entry .facet, H .laid .most)
+  pub next-entry : nextIn begins (getD table p 0) p ≡ nextOf begins p
+  unfolding nextOf
+  next-entry = ap (λ f. nextIn begins f p) (H .filled .at p l)
 
 -- ---- one pass
 

@@ -4,7 +4,7 @@ use mathlib.Core.Bool.{Bool, true, false, not, _&&_, _||_}
 use mathlib.Core.List.{List}
 use Prim.Native.Nat.{ℕ, _+_, _<_}
 use lib.Dec.{eqb, ltb}
-use lib.ListN.{length}
+use lib.ListN.{length, getD}
 use borrow.Author.Tests.{eq-eqb}
 use Rattle.whole.specs.Count.{countBelow}
 use Rattle.tables.specs.Tables.{facets, begin, sides, from, to}
@@ -13,6 +13,7 @@ use Rattle.tables.specs.Found.{firstPlace}
 use Rattle.tables.specs.declared.Found.{Found}
 use Rattle.tables.specs.declared.Found.the-variants.{Nothing}
 use Rattle.edges.specs.Chains.{leaves, Within}
+use Rattle.edges.specs.Index.{Leaving}
 use Rattle.edges.specs.Flat.{flat-none, none-flat}
 
 -- the edge at place p goes from a to b
@@ -47,5 +48,7 @@ paired-none {corners} {begins} L P = flat-none L (unpaired corners begins) (P .p
 pub edge-within : (corners begins : List ℕ) (a b : ℕ) → Within corners a (isEdge corners begins a b)
 edge-within corners begins a b p e = rw e
 
-pub edge-at : (corners begins : List ℕ) (a b p : ℕ) → from corners p ≡ a → isEdge corners begins a b p ≡ eqb (to corners begins p) b
-edge-at corners begins a b p e = rw (eq-eqb _ _ e)
+-- where the edge at p leaves a, the code looks at its end
+pub edge-entry : {corners begins ends last back : List ℕ} {a p : ℕ} (b : ℕ) → Leaving corners begins ends last back → p < length corners → from corners p ≡ a
+    → isEdge corners begins a b p ≡ eqb (getD ends p 0) b
+edge-entry {p = p} b I l e = rw (eq-eqb _ _ e, I .filled .at p l)
