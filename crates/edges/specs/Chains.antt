@@ -9,7 +9,7 @@ use lib.Dec.{eqb}
 use lib.ListN.{length, getD, set, length-set, replicate, length-replicate, List·getD-eq-default}
 use lib.Seq.{getD-set-same, getD-set-other}
 use borrow.Author.Tests.{eqb-true, eqb-false}
-use Rattle.whole.specs.Count.{bit, countBelow, count-more, count-le, lastBelow, last, last-more, Alike, gap}
+use Rattle.whole.specs.Count.{bit, countBelow, count-more, count-le, lastBelow, Last, last as lastPlace, last-more, Alike, gap}
 use Rattle.whole.specs.Filled.{Filled, blank, filled-0, filled-more}
 use Rattle.tables.specs.Tables.{from}
 
@@ -60,94 +60,92 @@ chains-more {corners} {last} {back} {n} c b l =
 
 -- ---- along a chain
 
--- a test that holds only at places that leave v
+-- q is a link of the chain of v: one more than a place that leaves v, or 0
+pub record On (corners : List ℕ) (v q : ℕ) : Type 0 where
+  pub upto : q ≤ length corners
+  pub leads : 0 < q → from corners (q - 1) ≡ v
+
+module _ {corners last back : List ℕ} (C : Chains corners last back (length corners)) {v : ℕ} where
+  module _ (l : v < 1024) where
+    head-last : Last (leaves corners v) (length corners) (getD last v 0)
+    head-last = rw (C .heads .at v l) (lastPlace (leaves corners v) (length corners))
+
+    pub on-0 : On corners v (getD last v 0)
+    on-0 = record { upto = head-last .upto; leads = λ h. eqb-true _ v (head-last .holds (getD last v 0 - 1) (omega arith)) }
+
+    -- no place after the first link leaves v
+    pub gap-0 : (p : ℕ) → getD last v 0 ≤ p → p < length corners → leaves corners v p ≡ false
+    gap-0 = head-last .gap
+
+  module _ {q : ℕ} (h : 0 < q) (o : On corners v q) where
+    link-last : Last (leaves corners v) (q - 1) (getD back (q - 1) 0)
+    link-last = rw (C .links .at (q - 1) (omega (arith, o .upto)), o .leads h) (lastPlace (leaves corners v) (q - 1))
+
+    pub on-more : On corners v (getD back (q - 1) 0)
+    on-more = record { upto = omega (arith, link-last .upto, o .upto); leads = λ k. eqb-true _ v (link-last .holds (getD back (q - 1) 0 - 1) (omega arith)) }
+
+    pub falls : getD back (q - 1) 0 < q
+    falls = omega (arith, link-last .upto)
+
+    -- no place between a link's and the next link's leaves v
+    pub gap-more : (p : ℕ) → getD back (q - 1) 0 ≤ p → p < q - 1 → leaves corners v p ≡ false
+    gap-more = link-last .gap
+
+-- ---- a test that holds only at places that leave v, along the chain of v
+
 abbrev pub Within : List ℕ → ℕ → (ℕ → Bool) → Type 0
 Within corners v f = (p : ℕ) → leaves corners v p ≡ false → f p ≡ false
 
--- q is the link to the last of the places below m that leave v; f, which holds at such places only, holds at none between
-pub record Link (corners : List ℕ) (v : ℕ) (f : ℕ → Bool) (m q : ℕ) : Type 0 where
-  pub upto : q ≤ m
-  pub leads : 0 < q → from corners (q - 1) ≡ v
-  pub alike : Alike f q m
-
-pub link : (corners : List ℕ) (v m : ℕ) {f : ℕ → Bool} → Within corners v f → Link corners v f m (lastOf corners m v)
-link corners v m {f} w =
-    let l = last (leaves corners v) m in
-    record {
-      upto = l .upto;
-      leads = λ h. eqb-true _ v (l .holds (lastOf corners m v - 1) (omega arith));
-      alike = gap f (lastOf corners m v) m (l .upto) (λ p a b. w p (l .gap p a b));
-    }
-
--- the test held at n places of the chain of v before the link q
+-- it held at n places before link q
 pub record Met (corners : List ℕ) (v : ℕ) (f : ℕ → Bool) (n q : ℕ) : Type 0 where
-  pub only : Within corners v f
-  pub upto : q ≤ length corners
-  pub leads : 0 < q → from corners (q - 1) ≡ v
+  pub on : On corners v q
   pub sum : n + countBelow f q ≡ countBelow f (length corners)
 
-pub met-few : {corners : List ℕ} {v : ℕ} {f : ℕ → Bool} {n q : ℕ} → Met corners v f n q → n ≤ length corners
-met-few {corners} {f = f} m = omega (arith, m .sum, count-le f (length corners))
-
-pub met-all : {corners : List ℕ} {v : ℕ} {f : ℕ → Bool} {n q : ℕ} → Met corners v f n q → q ≤ 0 → n ≡ countBelow f (length corners)
-unfolding countBelow
-met-all {f = f} {q = q} m l = let z : q ≡ 0 = omega arith in omega (arith, m .sum, ap (countBelow f) z)
-
--- it held at none of them
+-- it held at none
 pub record Unmet (corners : List ℕ) (v : ℕ) (f : ℕ → Bool) (q : ℕ) : Type 0 where
-  pub only : Within corners v f
-  pub upto : q ≤ length corners
-  pub leads : 0 < q → from corners (q - 1) ≡ v
+  pub on : On corners v q
   pub rest : lastBelow f q ≡ lastBelow f (length corners)
 
-pub unmet-here : {corners : List ℕ} {v : ℕ} {f : ℕ → Bool} {q : ℕ} → Unmet corners v f q → 0 < q → f (q - 1) ≡ true → q ≡ lastBelow f (length corners)
-unmet-here {f = f} {q = q} s h e =
-    let z : q - 1 + 1 ≡ q = omega arith in
-    let k = rw e at (last-more f (q - 1)) in
-    sym z ∙ sym k ∙ ap (lastBelow f) z ∙ s .rest
+module _ {corners last back : List ℕ} (C : Chains corners last back (length corners)) {v : ℕ} {f : ℕ → Bool} (w : Within corners v f) where
+  alike-0 : v < 1024 → Alike f (getD last v 0) (length corners)
+  alike-0 l = gap f (getD last v 0) (length corners) (on-0 C l .upto) (λ p a b. w p (gap-0 C l p a b))
 
-pub unmet-none : {corners : List ℕ} {v : ℕ} {f : ℕ → Bool} {q : ℕ} → Unmet corners v f q → q ≤ 0 → 0 ≡ lastBelow f (length corners)
-unfolding lastBelow
-unmet-none {q = q} s l = let z : q ≡ 0 = omega arith in rw z at (s .rest)
+  alike-more : {q : ℕ} → 0 < q → On corners v q → Alike f (getD back (q - 1) 0) (q - 1)
+  alike-more {q} h o = gap f (getD back (q - 1) 0) (q - 1) (omega (arith, falls C h o)) (λ p a b. w p (gap-more C h o p a b))
 
-module _ {corners last back : List ℕ} (C : Chains corners last back (length corners)) {v : ℕ} {f : ℕ → Bool} where
-  pub first-link : Within corners v f → v < 1024 → Link corners v f (length corners) (getD last v 0)
-  first-link w l = rw (C .heads .at v l) (link corners v (length corners) w)
-
-  pub next-link : Within corners v f → {q : ℕ} → 0 < q → q ≤ length corners → from corners (q - 1) ≡ v → Link corners v f (q - 1) (getD back (q - 1) 0)
-  next-link w {q} h l e = rw (C .links .at (q - 1) (omega arith), e) (link corners v (q - 1) w)
-
-  -- ---- counting
-
-  pub met-0 : Within corners v f → v < 1024 → Met corners v f 0 (getD last v 0)
-  met-0 w l = let k = first-link w l in record { only = w; upto = k .upto; leads = k .leads; sum = omega (arith, k .alike .count) }
-
-  pub met-link : {n q : ℕ} → 0 < q → Met corners v f n q → Link corners v f (q - 1) (getD back (q - 1) 0)
-  met-link h m = next-link (m .only) h (m .upto) (m .leads h)
+  pub met-0 : v < 1024 → Met corners v f 0 (getD last v 0)
+  met-0 l = record { on = on-0 C l; sum = omega (arith, alike-0 l .count) }
 
   pub met-more : {n q b : ℕ} → 0 < q → Met corners v f n q → b ≡ bit (f (q - 1)) → Met corners v f (n + b) (getD back (q - 1) 0)
   met-more {n} {q} h m e =
-      let k = met-link h m in
       let s : q ≡ q - 1 + 1 = omega arith in
       let c = ap (countBelow f) s ∙ count-more f (q - 1) in
-      record { only = m .only; upto = omega (arith, k .upto, m .upto); leads = k .leads; sum = omega (arith, c, e, k .alike .count, m .sum) }
+      record { on = on-more C h (m .on); sum = omega (arith, c, e, alike-more h (m .on) .count, m .sum) }
 
-  -- ---- searching
-
-  pub unmet-0 : Within corners v f → v < 1024 → Unmet corners v f (getD last v 0)
-  unmet-0 w l = let k = first-link w l in record { only = w; upto = k .upto; leads = k .leads; rest = sym (k .alike .last) }
-
-  pub unmet-link : {q : ℕ} → 0 < q → Unmet corners v f q → Link corners v f (q - 1) (getD back (q - 1) 0)
-  unmet-link h s = next-link (s .only) h (s .upto) (s .leads h)
+  pub unmet-0 : v < 1024 → Unmet corners v f (getD last v 0)
+  unmet-0 l = record { on = on-0 C l; rest = sym (alike-0 l .last) }
 
   pub unmet-more : {q : ℕ} → 0 < q → Unmet corners v f q → f (q - 1) ≡ false → Unmet corners v f (getD back (q - 1) 0)
-  unmet-more {q} h s e =
-      let k = unmet-link h s in
+  unmet-more {q} h u e =
       let z : q - 1 + 1 ≡ q = omega arith in
       let m = rw e at (last-more f (q - 1)) in
-      record {
-        only = s .only;
-        upto = omega (arith, k .upto, s .upto);
-        leads = k .leads;
-        rest = sym (k .alike .last) ∙ sym m ∙ ap (lastBelow f) z ∙ s .rest;
-      }
+      record { on = on-more C h (u .on); rest = sym (alike-more h (u .on) .last) ∙ sym m ∙ ap (lastBelow f) z ∙ u .rest }
+
+module _ {corners : List ℕ} {v : ℕ} {f : ℕ → Bool} {n q : ℕ} (m : Met corners v f n q) where
+  pub met-few : n ≤ length corners
+  met-few = omega (arith, m .sum, count-le f (length corners))
+
+  pub met-all : q ≤ 0 → n ≡ countBelow f (length corners)
+  unfolding countBelow
+  met-all l = let z : q ≡ 0 = omega arith in omega (arith, m .sum, ap (countBelow f) z)
+
+module _ {corners : List ℕ} {v : ℕ} {f : ℕ → Bool} {q : ℕ} (u : Unmet corners v f q) where
+  pub unmet-here : 0 < q → f (q - 1) ≡ true → q ≡ lastBelow f (length corners)
+  unmet-here h e =
+      let z : q - 1 + 1 ≡ q = omega arith in
+      let k = rw e at (last-more f (q - 1)) in
+      sym z ∙ sym k ∙ ap (lastBelow f) z ∙ u .rest
+
+  pub unmet-none : q ≤ 0 → 0 ≡ lastBelow f (length corners)
+  unfolding lastBelow
+  unmet-none l = let z : q ≡ 0 = omega arith in rw z at (u .rest)

@@ -45,8 +45,10 @@ pub fn next_in(begins: &[u16], f: usize, p: usize) -> usize
     requires { ⌜ In (now begins) f p ⌝ }
     ensures { λ r. ⌜ r ≡ nextIn (now (begins .entry)) f p ⌝ }
 {
-    if p + 1 == tables::wide(begins[f + 1]) {
-        return tables::wide(begins[f]);
+    let begin = tables::wide(begins[f]);
+    let end = tables::wide(begins[f + 1]);
+    if p + 1 == end {
+        return begin;
     }
     p + 1
 }

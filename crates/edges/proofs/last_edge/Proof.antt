@@ -3,7 +3,7 @@ use borrow.Author.Needs.{needs}
 use borrow.Author.Tests.{eq-eqb, ne-eqb}
 use Prim.Native.Nat.{_<_}
 use native.Mathlib.Omega.{arith}
-use Rattle.edges.specs.Chains.{Unmet, unmet-0, unmet-link, unmet-more, unmet-here, unmet-none}
+use Rattle.edges.specs.Chains.{Unmet, falls, unmet-0, unmet-more, unmet-here, unmet-none}
 use Rattle.edges.specs.Pair.{isEdge, edge-within, edge-entry}
 use Rattle.edges.proofs.last_edge.Statement.{statement}
 use Rattle.edges.proofs.last_edge.Tie as tie
@@ -25,7 +25,7 @@ loop-holds c =
     (unmet-0 (s .pre .0 .chains) (edge-within (a .corners .now) (a .begins .now) (a .a) (a .b)) (s .pre .1))
 
 room : tie.Need-element-copy-out-if1 Inv-loop μ-loop
-room c = omega (arith, c .before .loop .inv .upto, c .before .before .before .before .before .before .before .pre .0 .laid .short)
+room c = omega (arith, c .before .loop .inv .on .upto, c .before .before .before .before .before .before .before .pre .0 .laid .short)
 
 returns : tie.Need-returns Inv-loop μ-loop
 returns c =
@@ -33,7 +33,7 @@ returns c =
     let s = l .before .before .before .before .before .before in
     let I = s .pre .0 in
     let i = l .loop .inv in
-    unmet-here i (omega arith) (rw (edge-entry (s .args .b) I (omega (arith, i .upto)) (i .leads (omega arith))) (eq-eqb _ _ (c .if1 .taken)))
+    unmet-here i (omega arith) (rw (edge-entry (s .args .b) I (omega (arith, i .on .upto)) (i .on .leads (omega arith))) (eq-eqb _ _ (c .if1 .taken)))
 
 link : tie.Need-element-copy-out-wide-2 Inv-loop μ-loop
 link c = room (c .before .before)
@@ -41,17 +41,19 @@ link c = room (c .before .before)
 loop-less : tie.Need-loop-less Inv-loop μ-loop
 loop-less c =
     let l = c .before .before .before .before .before in
-    rw (c .wide3 .ensures .0) (omega (arith, unmet-link (l .before .before .before .before .before .before .pre .0 .chains) (omega arith) (l .loop .inv) .upto))
+    rw (c .wide3 .ensures .0) (falls (l .before .before .before .before .before .before .pre .0 .chains) (omega arith) (l .loop .inv .on))
 
 loop-again : tie.Need-loop-again Inv-loop μ-loop
 loop-again c =
     let e = c .before .before in
     let l = e .before .before .before in
     let s = l .before .before .before .before .before .before in
+    let a = s .args in
     let I = s .pre .0 in
     let i = l .loop .inv in
     rw (c .wide3 .ensures .0)
-    (unmet-more (I .chains) (omega arith) i (rw (edge-entry (s .args .b) I (omega (arith, i .upto)) (i .leads (omega arith))) (ne-eqb _ _ (e .if1 .left))))
+    (unmet-more (I .chains) (edge-within (a .corners .now) (a .begins .now) (a .a) (a .b)) (omega arith) i
+    (rw (edge-entry (a .b) I (omega (arith, i .on .upto)) (i .on .leads (omega arith))) (ne-eqb _ _ (e .if1 .left))))
 
 pub last-edge-spec : {M : Type 1} → statement M
 last-edge-spec =

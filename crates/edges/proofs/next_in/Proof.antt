@@ -2,32 +2,27 @@
 use borrow.Author.Needs.{needs}
 use borrow.Author.Tests.{eq-eqb, ne-eqb}
 use mathlib.Core.Path.{_∙_}
-use Prim.Native.Nat.{_+_}
-use native.Mathlib.Omega.{arith}
 use Rattle.edges.proofs.next_in.Statement.{statement}
 use Rattle.edges.proofs.next_in.Tie as tie
 
-add-if1 : tie.Need-add-if1
-add-if1 c = let s = c .before in omega (arith, c .shared-slice-known .given (s .args .f + 1), s .pre .high)
-
 returns : tie.Need-returns
-returns c = rw (eq-eqb _ _ (c .before .before .if1 .taken ∙ c .before .before .before .wide .ensures .0)) (c .wide2 .ensures .0)
+returns c = rw (eq-eqb _ _ (c .if1 .taken ∙ c .before .wide2 .ensures .0)) (c .before .before .before .wide .ensures .0)
 
 returns-2 : tie.Need-returns-2
-returns-2 c = rw (ne-eqb _ _ (rw (c .before .wide .ensures .0) at (c .if1 .left)))
+returns-2 c = rw (ne-eqb _ _ (rw (c .before .wide2 .ensures .0) at (c .if1 .left)))
 
 pub next-in-spec : {M : Type 1} → statement M
 next-in-spec =
     tie.close
     (tie.spec
-    add-if1
+    (λ c. search needs)
+    (λ c. search needs)
+    (λ c κs. search needs)
     (λ c. search needs)
     (λ c. search needs)
     (λ c. search needs)
     (λ c κs. search needs)
     (λ c. search needs)
-    (λ c. search needs)
-    (λ c κs. search needs)
     returns
     (λ c. search needs)
     returns-2)

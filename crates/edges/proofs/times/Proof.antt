@@ -5,7 +5,7 @@ use native.Mathlib.Omega.{arith}
 use lib.Dec.{eqb}
 use lib.ListN.{getD}
 use Rattle.whole.specs.Count.{bit-le}
-use Rattle.edges.specs.Chains.{Met, met-0, met-link, met-more, met-few, met-all}
+use Rattle.edges.specs.Chains.{Met, falls, met-0, met-more, met-few, met-all}
 use Rattle.edges.specs.Pair.{isEdge, edge-within, edge-entry}
 use Rattle.edges.proofs.times.Statement.{statement}
 use Rattle.edges.proofs.times.Tie as tie
@@ -27,7 +27,7 @@ loop-holds c =
     (met-0 (s .pre .0 .chains) (edge-within (a .corners .now) (a .begins .now) (a .a) (a .b)) (s .pre .1))
 
 room : tie.Need-element-copy-out-same Inv-loop μ-loop
-room c = omega (arith, c .before .loop .inv .upto, c .before .before .before .before .before .before .before .pre .0 .laid .short)
+room c = omega (arith, c .before .loop .inv .on .upto, c .before .before .before .before .before .before .before .pre .0 .laid .short)
 
 add-n : tie.Need-add-n Inv-loop μ-loop
 add-n c =
@@ -42,17 +42,19 @@ link c = room (c .before .before)
 loop-less : tie.Need-loop-less Inv-loop μ-loop
 loop-less c =
     let l = c .before .before .before .before .before in
-    rw (c .wide3 .ensures .0) (omega (arith, met-link (l .before .before .before .before .before .before .pre .0 .chains) (omega arith) (l .loop .inv) .upto))
+    rw (c .wide3 .ensures .0) (falls (l .before .before .before .before .before .before .pre .0 .chains) (omega arith) (l .loop .inv .on))
 
 loop-again : tie.Need-loop-again Inv-loop μ-loop
 loop-again c =
     let h = c .before .before in
     let l = h .before .before .before in
     let s = l .before .before .before .before .before .before in
+    let a = s .args in
     let I = s .pre .0 in
     let i = l .loop .inv in
     rw (c .wide3 .ensures .0)
-    (met-more (I .chains) (omega arith) i (rw (edge-entry (s .args .b) I (omega (arith, i .upto)) (i .leads (omega arith))) (h .same .ensures)))
+    (met-more (I .chains) (edge-within (a .corners .now) (a .begins .now) (a .a) (a .b)) (omega arith) i
+    (rw (edge-entry (a .b) I (omega (arith, i .on .upto)) (i .on .leads (omega arith))) (h .same .ensures)))
 
 pub times-spec : {M : Type 1} → statement M
 times-spec =
