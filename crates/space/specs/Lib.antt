@@ -6,3 +6,4 @@ pub mod Plane
 pub mod Range
 pub mod Rows
 pub mod Points
+pub mod Sides

@@ -10,6 +10,7 @@ ghost use Rattle.space.specs.Plane as plane;
 ghost use Rattle.space.specs.Range.{limit, isOut, InRange};
 ghost use Rattle.space.specs.Rows.{Step, Minor, Row, Rows, longest, widest, detOf, crossOf};
 ghost use Rattle.space.specs.Points.{Vertex, Ranged, coordOf, stepOf, rowOf, normalOf, isBelow, isAbove, isZero, isNought, sign, sideOf, inLine, isLeft};
+ghost use Rattle.space.specs.Sides.{isInside, isOn};
 
 // Whether a coordinate is outside its limits.
 pub fn is_out(x: i32) -> bool
@@ -131,6 +132,28 @@ fn sign(volume: i64) -> Side
         return Side::Outside;
     }
     Side::On
+}
+
+// Whether a side is strictly inside.
+pub fn is_inside(side: Side) -> bool
+    ensures { λ r. ⌜ r ≡ isInside side ⌝ }
+{
+    match side {
+        Side::Inside => true,
+        Side::On => false,
+        Side::Outside => false,
+    }
+}
+
+// Whether a side is on the plane.
+pub fn is_on(side: Side) -> bool
+    ensures { λ r. ⌜ r ≡ isOn side ⌝ }
+{
+    match side {
+        Side::Inside => false,
+        Side::On => true,
+        Side::Outside => false,
+    }
 }
 
 // The side of the plane through a, b and c that d is on.

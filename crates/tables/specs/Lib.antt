@@ -4,5 +4,6 @@ pub mod Answer
 pub mod Tables
 pub mod Size
 pub mod Places
+pub mod Facets
 pub mod Rules
 pub mod Marks

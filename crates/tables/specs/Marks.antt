@@ -10,7 +10,8 @@ use lib.Seq.{getD-set-same, getD-set-other}
 use borrow.Author.Tests.{eqb-true, eqb-false}
 use Rattle.whole.specs.First.{firstBelow, anyBelow, any-more}
 use Rattle.whole.specs.Count.{bit}
-use Rattle.tables.specs.Rules.{isAt, unnamed}
+use Rattle.tables.specs.Tables.{isAt}
+use Rattle.tables.specs.Rules.{unnamed}
 
 pub record Marks (corners named : List ℕ) (i : ℕ) : Type 0 where
   pub long : length named ≡ 1024

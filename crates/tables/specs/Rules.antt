@@ -1,17 +1,17 @@
 -- Numbers 2 to 5: RANGE, INDEX, REPEAT, UNUSED, each by its row of the sheet's table.
-use mathlib.Core.Bool.{Bool, not, _||_}
+use mathlib.Core.Bool.{Bool, cond, not, _||_}
 use mathlib.Core.List.{List, []}
-use Prim.Native.Nat.{ℕ, _<_}
-use mathlib.Core.Bool.{cond}
-use lib.Dec.{eqb, leb, ltb}
+use Prim.Native.Nat.{ℕ}
+use lib.Dec.{leb, ltb}
 use lib.IntN.{ℤ}
 use lib.ListN.{length, getD}
-use Rattle.whole.specs.First.{firstBelow, anyBelow}
+use Rattle.whole.specs.First.{anyBelow}
 use Rattle.space.specs.Range.{isOut}
 use Rattle.space.specs.Points.{vertices, coordOf}
-use Rattle.tables.specs.Tables.{facets, sides, facetOf}
+use Rattle.tables.specs.Tables.{facets, facetOf, isAt, again}
 use Rattle.tables.specs.Size.{isSize}
-use Rattle.tables.specs.Found.{lowest, firstPlace}
+use Rattle.tables.specs.Found.{lowest}
+use Rattle.tables.specs.Facets.{inFacets}
 use Rattle.tables.specs.declared.Found.{Found}
 
 -- "For tables that pass SIZE and a facet number below F, the facet look-up hands back that part of the lent run itself. Otherwise .. the empty part"
@@ -30,17 +30,11 @@ abbrev pub wild : ℕ → List ℕ → ℕ → Bool
 wild n part p = leb n (getD part p 0)
 
 abbrev pub index : ℕ → List ℕ → List ℕ → Found
-index n corners begins = firstPlace (facets begins) (sides begins) (λ f. wild n (facetOf corners begins f))
+index n corners begins = inFacets corners begins (wild n)
 
 -- "a facet names a vertex again", at the position of the repeat
-abbrev pub isAt : List ℕ → ℕ → ℕ → Bool
-isAt part v p = eqb (getD part p 0) v
-
-abbrev pub again : List ℕ → ℕ → Bool
-again part p = anyBelow (isAt part (getD part p 0)) p
-
 abbrev pub repeat : List ℕ → List ℕ → Found
-repeat corners begins = firstPlace (facets begins) (sides begins) (λ f. again (facetOf corners begins f))
+repeat corners begins = inFacets corners begins again
 
 -- "no facet names this vertex"
 abbrev pub unnamed : List ℕ → ℕ → Bool

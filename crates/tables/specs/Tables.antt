@@ -1,10 +1,10 @@
 -- "The solid's tables": sizes, facets, edges and limits.
 use Prim.Native.Nat.{ℕ, _+_, _-_, _/_}
 use mathlib.Core.Bool.{Bool, cond}
-use mathlib.Core.List.{List, []}
+use mathlib.Core.List.{List}
 use lib.Dec.{ltb, eqb}
 use lib.ListN.{length, getD, take, drop}
-use Rattle.whole.specs.First.{firstBelow}
+use Rattle.whole.specs.First.{firstBelow, anyBelow}
 
 -- "Vertices V: 4 to 1,024. Facets F: 4 to 2,048. Corners in all: at most 6,144", "facets of 3 to 12 corners"
 abbrev pub leastVertices : ℕ
@@ -54,13 +54,24 @@ facetOf corners begins f = take (sides begins f) (drop (begin begins f) corners)
 abbrev pub cornerOf : List ℕ → List ℕ → ℕ → ℕ → ℕ
 cornerOf corners begins f p = getD (facetOf corners begins f) p 0
 
+-- the position after p in a circuit of n, "the last one wrapping to position 0"
+abbrev pub nextPosition : ℕ → ℕ → ℕ
+nextPosition n p = cond (eqb (p + 1) n) 0 (p + 1)
+
+-- v stands at position p of a part, and the corner at p stands at an earlier position too
+abbrev pub isAt : List ℕ → ℕ → ℕ → Bool
+isAt part v p = eqb (getD part p 0) v
+
+abbrev pub again : List ℕ → ℕ → Bool
+again part p = anyBelow (isAt part (getD part p 0)) p
+
 -- ---- places of the run: a facet's position p is place `begin + p`
 
 -- the facet of a place: the first that ends after it
 unfoldable pub homeOf : List ℕ → ℕ → ℕ
 homeOf begins p = firstBelow (λ f. ltb p (end begins f)) (facets begins)
 
--- the next place in the same facet, "the last one wrapping to position 0"
+-- the next place in the same facet, wrapping likewise
 abbrev pub nextIn : List ℕ → ℕ → ℕ → ℕ
 nextIn begins f p = cond (eqb (p + 1) (end begins f)) (begin begins f) (p + 1)
 

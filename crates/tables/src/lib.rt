@@ -4,10 +4,10 @@ ghost use lib.ListN.{length};
 ghost use Rattle.whole.specs.First.{firstBelow, anyBelow};
 ghost use Rattle.space.specs.Points.{vertices, Vertex};
 ghost use Rattle.tables.specs.Answer.{accepted, refused, orElse};
-ghost use Rattle.tables.specs.Tables.{mostVertices, facets, facetOf};
+ghost use Rattle.tables.specs.Tables.{mostVertices, facets, facetOf, nextPosition, isAt, again};
 ghost use Rattle.tables.specs.Size.{wrongLengths, wrongEnds, wrongSides, isSize, Laid};
 ghost use Rattle.tables.specs.Places.{Named};
-ghost use Rattle.tables.specs.Rules.{lookUp, outOfRange, range, wild, index, isAt, again, repeat, unnamed, unused};
+ghost use Rattle.tables.specs.Rules.{lookUp, outOfRange, range, wild, index, repeat, unnamed, unused};
 ghost use Rattle.tables.specs.Marks.{Marks};
 
 pub const LEAST_VERTICES: usize = 4;
@@ -227,6 +227,18 @@ pub fn index(corners: &[u16], begins: &[u16], n: usize) -> Found
         f += 1;
     }
     Found::Nothing
+}
+
+// The position after p in a circuit of n.
+pub fn next_position(n: usize, p: usize) -> usize
+    requires { ⌜ p < n ⌝ }
+    ensures { λ r. ⌜ (r ≡ nextPosition n p) × (r < n) ⌝ }
+{
+    let on = p + 1;
+    if on == n {
+        return 0;
+    }
+    on
 }
 
 // The first position below n at which v stands, or n.

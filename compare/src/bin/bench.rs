@@ -1,0 +1,203 @@
+//! Times the proved library against the plain one on the same inputs.
+
+use compare::library::{Lent, Library};
+use compare::plain::Plain;
+use independent::generate::{ball_of, polygon, Rng, Tables};
+use independent::{BEGIN_ROOM, CORNER_ROOM, POINT_ROOM};
+use std::hint::black_box;
+use std::process::ExitCode;
+use std::time::{Duration, Instant};
+
+const VERTICES: [usize; 4] = [16, 64, 256, 1024];
+// More than about 2,270 points within the limits cannot be strictly convex, so the longest winds twice.
+const OUTLINES: [usize; 3] = [64, 512, 4096];
+const SAMPLES: usize = 9;
+const SAMPLE: Duration = Duration::from_millis(20);
+
+struct Row {
+    task: &'static str,
+    size: usize,
+    nanoseconds: [f64; 2],
+}
+
+fn main() -> ExitCode {
+    let stand_in = std::env::args().any(|word| word == "--self");
+    let other = match other(stand_in) {
+        Ok(other) => other,
+        Err(message) => {
+            eprintln!("{message}");
+            return ExitCode::from(2);
+        }
+    };
+    let libraries: [&dyn Library; 2] = [other.as_ref(), &Plain];
+    let mut rows = Vec::new();
+    let mut rng = Rng::new(7);
+    for vertices in VERTICES {
+        let mut mesh = ball_of(&mut rng, vertices, 8191);
+        mesh.scramble(&mut rng);
+        solid_rows(&libraries, vertices, &mesh.tables(), &mut rows);
+    }
+    for count in OUTLINES {
+        let points = outline_of(&mut rng, count);
+        rows.push(measure("outline", count, &libraries, |library| {
+            let mut out = [0];
+            let number = library.outline(black_box(&points), &mut out);
+            (number, out[0])
+        }));
+    }
+    rows.sort_by_key(|row| TASKS.iter().position(|&task| task == row.task));
+    print_times(other.name(), &rows);
+    print_growth(other.name(), &rows);
+    ExitCode::SUCCESS
+}
+
+#[cfg(proved)]
+fn other(stand_in: bool) -> Result<Box<dyn Library>, String> {
+    if stand_in {
+        return Ok(Box::new(compare::library::Independent));
+    }
+    Ok(Box::new(compare::proved::Proved))
+}
+
+#[cfg(not(proved))]
+fn other(stand_in: bool) -> Result<Box<dyn Library>, String> {
+    if stand_in {
+        return Ok(Box::new(compare::library::Independent));
+    }
+    Err("built without the proved library (set SOLID_LIB_DIR), or run bench --self".into())
+}
+
+const TASKS: [&str; 5] = ["judge", "walk", "read", "write", "outline"];
+
+fn solid_rows(libraries: &[&dyn Library; 2], vertices: usize, t: &Tables, rows: &mut Vec<Row>) {
+    let lent = Lent {
+        points: &t.points,
+        corners: &t.corners,
+        begins: &t.begins,
+    };
+    rows.push(measure("judge", vertices, libraries, |library| {
+        let mut out = [0; 3];
+        let number = library.judge(black_box(lent), &mut out);
+        (number, out[0])
+    }));
+
+    let direction = [3, -5, 32767];
+    let low = |v: &usize| t.points[3 * v + 2];
+    let start = (0..vertices).min_by_key(low).unwrap_or(0) as u32;
+    let mut trail = vec![0; vertices];
+    rows.push(measure("walk", vertices, libraries, |library| {
+        let mut out = [0; 6];
+        let number = library.walk(black_box(lent), start, direction, &mut trail, &mut out);
+        (number, out[3])
+    }));
+
+    let mut tape = vec![0; 21_509];
+    rows.push(measure("write", vertices, libraries, |library| {
+        let mut out = [0; 3];
+        let number = library.write_tape(black_box(lent), &mut tape, &mut out);
+        (number, out[0])
+    }));
+
+    let mut out = [0; 3];
+    Plain.write_tape(lent, &mut tape, &mut out);
+    tape.truncate(out[0] as usize);
+    let mut points = vec![0; POINT_ROOM];
+    let mut corners = vec![0; CORNER_ROOM];
+    let mut begins = vec![0; BEGIN_ROOM];
+    rows.push(measure("read", vertices, libraries, |library| {
+        let mut out = [0; 3];
+        let tape = black_box(&tape);
+        let number = library.read_tape(tape, &mut points, &mut corners, &mut begins, &mut out);
+        (number, out[1])
+    }));
+}
+
+/// A convex outline, or for the longest one a convex outline run twice whose second far point is last.
+fn outline_of(rng: &mut Rng, count: usize) -> Vec<i32> {
+    let once = if count > 2200 { count / 2 } else { count };
+    let mut points = polygon::many(rng, once);
+    let far = (0..once).max_by_key(|&i| points[i]).unwrap_or(0);
+    points.rotate_left((far + 1) % once);
+    points.repeat(count / once).concat()
+}
+
+/// The median time of a call for both libraries, sampled in turn.
+fn measure(
+    task: &'static str,
+    size: usize,
+    libraries: &[&dyn Library; 2],
+    mut call: impl FnMut(&dyn Library) -> (u16, i64),
+) -> Row {
+    let expected = call(libraries[1]);
+    assert_eq!(
+        call(libraries[0]),
+        expected,
+        "{task} {size}: the answers differ"
+    );
+    let mut rounds = [1_u32; 2];
+    for (library, rounds) in libraries.iter().zip(&mut rounds) {
+        // Doubling until a sample is long enough also warms everything up.
+        while sample(*rounds, || call(*library)) < SAMPLE && *rounds < 1 << 24 {
+            *rounds *= 2;
+        }
+    }
+    let mut samples = [Vec::new(), Vec::new()];
+    for _ in 0..SAMPLES {
+        for (k, library) in libraries.iter().enumerate() {
+            let time = sample(rounds[k], || call(*library));
+            samples[k].push(time.as_nanos() as f64 / f64::from(rounds[k]));
+        }
+    }
+    let median = |mut times: Vec<f64>| {
+        times.sort_by(f64::total_cmp);
+        times[times.len() / 2]
+    };
+    Row {
+        task,
+        size,
+        nanoseconds: samples.map(median),
+    }
+}
+
+fn sample(rounds: u32, mut call: impl FnMut() -> (u16, i64)) -> Duration {
+    let began = Instant::now();
+    for _ in 0..rounds {
+        black_box(call());
+    }
+    began.elapsed()
+}
+
+fn print_times(name: &str, rows: &[Row]) {
+    println!("| task | size | {name} ns | Rust ns | {name} / Rust |");
+    println!("|---|---:|---:|---:|---:|");
+    for row in rows {
+        let [theirs, plain] = row.nanoseconds;
+        println!(
+            "| {} | {} | {theirs:.0} | {plain:.0} | {:.2} |",
+            row.task,
+            row.size,
+            theirs / plain
+        );
+    }
+}
+
+/// By which factor, and as which power of the size, the times grow from one size to the next.
+fn print_growth(name: &str, rows: &[Row]) {
+    println!();
+    println!("| task | from | to | {name} grows | power | Rust grows | power |");
+    println!("|---|---:|---:|---:|---:|---:|---:|");
+    for pair in rows.windows(2).filter(|pair| pair[0].task == pair[1].task) {
+        let step = (pair[1].size as f64 / pair[0].size as f64).ln();
+        let grown = [0, 1].map(|k| pair[1].nanoseconds[k] / pair[0].nanoseconds[k]);
+        println!(
+            "| {} | {} | {} | {:.1} | {:.2} | {:.1} | {:.2} |",
+            pair[0].task,
+            pair[0].size,
+            pair[1].size,
+            grown[0],
+            grown[0].ln() / step,
+            grown[1],
+            grown[1].ln() / step
+        );
+    }
+}

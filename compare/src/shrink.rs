@@ -1,0 +1,365 @@
+//! Makes a case that shows a difference as small as a bounded greedy search can.
+
+use crate::confront;
+use crate::library::Library;
+use independent::generate::{hull_of, Case, Mesh, Tables};
+use std::ops::Range;
+
+/// Tries at most `bound` smaller cases, keeping each that still shows a difference.
+pub fn shrink(ours: &dyn Library, theirs: &dyn Library, case: &Case, bound: usize) -> Case {
+    let mut search = Search {
+        ours,
+        theirs,
+        best: case.clone(),
+        left: bound,
+    };
+    loop {
+        let before = search.best.clone();
+        for cut in CUTS {
+            search.cut(cut);
+        }
+        search.simplify_numbers();
+        if search.left == 0 || search.best == before {
+            return search.best;
+        }
+    }
+}
+
+/// How much there is to a case, for telling whether it became smaller.
+pub fn weight(case: &Case) -> usize {
+    let tables = |t: &Tables| t.points.len() + t.corners.len() + t.begins.len();
+    match case {
+        Case::Judge(t) => tables(t),
+        Case::Walk {
+            tables: t, trail, ..
+        } => tables(t) + trail.len(),
+        Case::Outline(points) => points.len(),
+        Case::Read { tape, .. } => tape.len(),
+        Case::Write {
+            tables: t, room, ..
+        } => tables(t) + room,
+    }
+}
+
+/// Takes a range of the case's parts away, or says that it has not that many.
+type Cut = fn(&Case, Range<usize>) -> Option<Case>;
+
+const CUTS: [Cut; 13] = [
+    hull_of_part,
+    hull_without,
+    without_facets,
+    without_vertices,
+    with_merged_vertices,
+    without_corners,
+    without_raw_entries,
+    without_trail,
+    without_outline_points,
+    without_records,
+    without_bytes,
+    without_room,
+    without_start,
+];
+
+struct Search<'a> {
+    ours: &'a dyn Library,
+    theirs: &'a dyn Library,
+    best: Case,
+    left: usize,
+}
+
+impl Search<'_> {
+    /// Keeps the candidate if the libraries still differ on it.
+    fn keep(&mut self, candidate: Case) -> bool {
+        if self.left == 0 || candidate == self.best {
+            return false;
+        }
+        self.left -= 1;
+        let differs = confront(self.ours, self.theirs, &candidate).is_err();
+        if differs {
+            self.best = candidate;
+        }
+        differs
+    }
+
+    /// Cuts away runs of parts, long ones first.
+    fn cut(&mut self, cut: Cut) {
+        let mut length = weight(&self.best).max(1).next_power_of_two() / 2;
+        while length > 0 && self.left > 0 {
+            let mut at = 0;
+            while let Some(candidate) = cut(&self.best, at..at + length) {
+                if self.left == 0 {
+                    return;
+                }
+                if !self.keep(candidate) {
+                    at += length;
+                }
+            }
+            length /= 2;
+        }
+    }
+
+    fn simplify_numbers(&mut self) {
+        let mut at = 0;
+        while let Some(value) = number_at(&mut self.best.clone(), at).map(|n| *n) {
+            for simpler in [0, value / 2, value - value.signum()] {
+                let mut candidate = self.best.clone();
+                if let Some(number) = number_at(&mut candidate, at) {
+                    *number = simpler;
+                }
+                if simpler != value && self.keep(candidate) {
+                    break;
+                }
+            }
+            at += 1;
+        }
+    }
+}
+
+/// The coordinates and direction parts of a case, one after the other.
+fn number_at(case: &mut Case, at: usize) -> Option<&mut i32> {
+    match case {
+        Case::Judge(t) | Case::Write { tables: t, .. } => t.points.get_mut(at),
+        Case::Outline(points) => points.get_mut(at),
+        Case::Walk {
+            tables, direction, ..
+        } => match at.checked_sub(3) {
+            None => direction.get_mut(at),
+            Some(at) => tables.points.get_mut(at),
+        },
+        Case::Read { .. } => None,
+    }
+}
+
+fn tables_of(case: &Case) -> Option<&Tables> {
+    match case {
+        Case::Judge(t) | Case::Walk { tables: t, .. } | Case::Write { tables: t, .. } => Some(t),
+        _ => None,
+    }
+}
+
+fn with_tables(case: &Case, tables: Tables) -> Case {
+    let mut changed = case.clone();
+    match &mut changed {
+        Case::Judge(t) | Case::Walk { tables: t, .. } | Case::Write { tables: t, .. } => {
+            *t = tables
+        }
+        _ => {}
+    }
+    changed
+}
+
+fn on_mesh(case: &Case, change: impl FnOnce(&mut Mesh) -> Option<()>) -> Option<Case> {
+    let mut mesh = Mesh::from_tables(tables_of(case)?)?;
+    change(&mut mesh)?;
+    Some(with_tables(case, mesh.tables()))
+}
+
+/// The part of the range that a list of this length has.
+fn within(range: Range<usize>, length: usize) -> Option<Range<usize>> {
+    (range.start < length).then(|| range.start..range.end.min(length))
+}
+
+fn without_facets(case: &Case, range: Range<usize>) -> Option<Case> {
+    on_mesh(case, |mesh| {
+        let range = within(range, mesh.facets.len())?;
+        mesh.facets.drain(range);
+        Some(())
+    })
+}
+
+fn without_vertices(case: &Case, range: Range<usize>) -> Option<Case> {
+    on_mesh(case, |mesh| {
+        for vertex in within(range, mesh.points.len())?.rev() {
+            let vertex = vertex as u16;
+            for facet in &mut mesh.facets {
+                facet.retain(|&c| c != vertex);
+            }
+            mesh.facets.retain(|facet| facet.len() >= 3);
+            mesh.remove_point(vertex);
+        }
+        Some(())
+    })
+}
+
+/// Draws a corner together with the next one of its facet: a closed surface stays closed.
+fn with_merged_vertices(case: &Case, range: Range<usize>) -> Option<Case> {
+    if range.len() > 1 {
+        return None;
+    }
+    on_mesh(case, |mesh| {
+        let mut slots = mesh.facets.iter().flat_map(|facet| {
+            let next = facet.iter().cycle().skip(1);
+            facet.iter().copied().zip(next.copied())
+        });
+        let (gone, kept) = slots.nth(range.start)?;
+        mesh.rename(gone, kept);
+        for facet in &mut mesh.facets {
+            facet.dedup();
+            if facet.len() > 1 && facet.first() == facet.last() {
+                facet.pop();
+            }
+        }
+        mesh.facets.retain(|facet| facet.len() >= 3);
+        if usize::from(gone) < mesh.points.len() {
+            mesh.remove_point(gone);
+        }
+        Some(())
+    })
+}
+
+/// The hull of all points but the range: a sound solid stays sound.
+fn hull_without(case: &Case, range: Range<usize>) -> Option<Case> {
+    on_mesh(case, |mesh| {
+        let range = within(range, mesh.points.len())?;
+        let mut points = mesh.points.clone();
+        points.drain(range);
+        make_hull(mesh, &points);
+        Some(())
+    })
+}
+
+/// The hull of the points in the range alone.
+fn hull_of_part(case: &Case, range: Range<usize>) -> Option<Case> {
+    on_mesh(case, |mesh| {
+        let range = within(range, mesh.points.len())?;
+        let points = mesh.points[range].to_vec();
+        make_hull(mesh, &points);
+        Some(())
+    })
+}
+
+/// Puts the hull in place of the solid where it is quickly made and smaller.
+fn make_hull(mesh: &mut Mesh, points: &[[i32; 3]]) {
+    let in_limits = points.iter().flatten().all(|c| c.unsigned_abs() <= 8191);
+    if points.len() <= 32 && in_limits {
+        if let Some(hull) = hull_of(points) {
+            if hull.points.len() < mesh.points.len() {
+                *mesh = hull;
+            }
+        }
+    }
+}
+
+fn without_corners(case: &Case, range: Range<usize>) -> Option<Case> {
+    on_mesh(case, |mesh| {
+        let total = mesh.facets.iter().map(Vec::len).sum();
+        let range = within(range, total)?;
+        let mut slot = 0;
+        for facet in &mut mesh.facets {
+            facet.retain(|_| {
+                slot += 1;
+                !range.contains(&(slot - 1))
+            });
+        }
+        Some(())
+    })
+}
+
+/// Entries of the three tables as one list, whatever they mean.
+fn without_raw_entries(case: &Case, range: Range<usize>) -> Option<Case> {
+    let mut tables = tables_of(case)?.clone();
+    let (p, c) = (tables.points.len(), tables.corners.len());
+    let range = within(range, p + c + tables.begins.len())?;
+    let part = |from: usize, length: usize| {
+        let start = range.start.clamp(from, from + length) - from;
+        let end = range.end.clamp(from, from + length) - from;
+        start..end
+    };
+    let begins = part(p + c, tables.begins.len());
+    tables.points.drain(part(0, p));
+    tables.corners.drain(part(p, c));
+    tables.begins.drain(begins);
+    Some(with_tables(case, tables))
+}
+
+fn without_trail(case: &Case, range: Range<usize>) -> Option<Case> {
+    let mut changed = case.clone();
+    match &mut changed {
+        Case::Walk { trail, .. } => {
+            let range = within(range, trail.len())?;
+            trail.drain(range);
+            Some(changed)
+        }
+        _ => None,
+    }
+}
+
+fn without_outline_points(case: &Case, range: Range<usize>) -> Option<Case> {
+    match case {
+        Case::Outline(points) => {
+            let range = within(range, points.len().div_ceil(2))?;
+            let mut kept = points.clone();
+            kept.drain(2 * range.start..(2 * range.end).min(points.len()));
+            Some(Case::Outline(kept))
+        }
+        _ => None,
+    }
+}
+
+/// Takes whole records away and sets the end record's counts right again.
+fn without_records(case: &Case, range: Range<usize>) -> Option<Case> {
+    let mut changed = case.clone();
+    let Case::Read { tape, .. } = &mut changed else {
+        return None;
+    };
+    let mut records = Vec::new();
+    let mut rest = tape.as_slice();
+    while let Some(&kind) = rest.first() {
+        let length = match kind {
+            0 => 5,
+            1 => 7,
+            _ => 1 + 2 * usize::from(kind),
+        };
+        let (record, after) = rest.split_at(length.min(rest.len()));
+        records.push(record.to_vec());
+        rest = after;
+    }
+    let end = records.iter().position(|record| record[0] == 0)?;
+    let range = within(range, end)?;
+    records.drain(range.clone());
+    let end = end - range.len();
+    let points = records[..end]
+        .iter()
+        .filter(|record| record[0] == 1)
+        .count();
+    if let [_, low_v, high_v, low_f, high_f] = records[end].as_mut_slice() {
+        [*low_v, *high_v] = (points as u16).to_le_bytes();
+        [*low_f, *high_f] = ((end - points) as u16).to_le_bytes();
+    }
+    *tape = records.concat();
+    Some(changed)
+}
+
+fn without_bytes(case: &Case, range: Range<usize>) -> Option<Case> {
+    let mut changed = case.clone();
+    match &mut changed {
+        Case::Read { tape, .. } => {
+            let range = within(range, tape.len())?;
+            tape.drain(range);
+            Some(changed)
+        }
+        _ => None,
+    }
+}
+
+fn without_room(case: &Case, range: Range<usize>) -> Option<Case> {
+    let mut changed = case.clone();
+    match &mut changed {
+        Case::Write { room, .. } => {
+            *room -= within(range, *room)?.len();
+            Some(changed)
+        }
+        _ => None,
+    }
+}
+
+fn without_start(case: &Case, range: Range<usize>) -> Option<Case> {
+    let mut changed = case.clone();
+    match &mut changed {
+        Case::Walk { start, .. } => {
+            *start -= within(range, *start as usize)?.len() as u32;
+            Some(changed)
+        }
+        _ => None,
+    }
+}

@@ -1,0 +1,31 @@
+-- What the tests of one facet ask of its part of the run, and what they have where 1 to 3 pass. Assumes nothing.
+use mathlib.Core.List.{List}
+use Prim.Native.Nat.{ℕ, _≤_, _<_}
+use native.Mathlib.Omega.{arith}
+use lib.IntN.{ℤ}
+use lib.ListN.{length, getD}
+use Rattle.space.specs.Points.{vertices, Ranged, Vertex}
+use Rattle.tables.specs.Tables.{facets, sides, facetOf}
+use Rattle.tables.specs.Places.{Sound, part-length, sides-some, sides-few, corner-at, place-below}
+
+pub record Facet (points : List ℤ) (part : List ℕ) : Type 0 where
+  pub ranged : Ranged points
+  pub some : 3 ≤ length part
+  pub few : length part ≤ 12
+  pub named : (p : ℕ) → p < length part → Vertex points (getD part p 0)
+
+-- tables that pass 1 to 3
+pub record Measured (points : List ℤ) (corners begins : List ℕ) : Type 0 where
+  pub ranged : Ranged points
+  pub sound : Sound (vertices points) corners begins
+
+pub facet : {points : List ℤ} {corners begins : List ℕ} → Measured points corners begins → {f : ℕ} → f < facets begins → Facet points (facetOf corners begins f)
+facet {points} {corners} {begins} m {f} l =
+    let s = m .sound .laid in
+    let e = part-length s l in
+    record {
+      ranged = m .ranged;
+      some = rw e (sides-some s l);
+      few = rw e (sides-few s l);
+      named = λ p h. let k : p < sides begins f = rw e at h in rw (corner-at s l k) (m .sound .named .index _ (place-below s l k));
+    }

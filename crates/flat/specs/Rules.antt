@@ -1,0 +1,75 @@
+-- Numbers 9 and 10, BENT and TURN, each by its row of the sheet's table. A facet is its part of the run.
+use mathlib.Core.Path.{_≡_, refl, _∙_, ap}
+use mathlib.Core.Bool.{Bool, true, false, cond, not}
+use mathlib.Core.List.{List}
+use Prim.Native.Nat.{ℕ, zero, suc, _≤_, _<_}
+use native.Mathlib.Omega.{arith}
+use borrow.Author.Tests.{le-ltb, ne-eqb}
+use lib.Dec.{eqb, ltb}
+use lib.IntN.{ℤ}
+use lib.ListN.{length, getD}
+use Rattle.whole.specs.First.{firstBelow, anyBelow, None, none-0, none-more, found}
+use Rattle.space.specs.Points.{sideOf, normalOf, inLine, isLeft}
+use Rattle.space.specs.declared.Side.{Side}
+use Rattle.space.specs.Sides.{isOn}
+use Rattle.tables.specs.Tables.{nextPosition}
+use Rattle.tables.specs.Facets.{inFacets}
+use Rattle.tables.specs.declared.Found.{Found}
+
+-- "A facet's plane comes from its first three corners a, b, c"
+abbrev pub sideAt : List ℤ → List ℕ → ℕ → Side
+sideAt points part v = sideOf points (getD part 0 0) (getD part 1 0) (getD part 2 0) v
+
+abbrev pub normalIn : List ℤ → List ℕ → List ℤ
+normalIn points part = normalOf points (getD part 0 0) (getD part 1 0) (getD part 2 0)
+
+-- "first three corners in line (position 2), or a later corner off the plane"
+unfoldable pub isBent : List ℤ → List ℕ → ℕ → Bool
+isBent points part p =
+    cond (ltb p 2) false
+    (cond (eqb p 2) (inLine points (getD part 0 0) (getD part 1 0) (getD part 2 0)) (not (isOn (sideAt points part (getD part p 0)))))
+
+abbrev pub bent : List ℤ → List ℕ → List ℕ → Found
+bent points corners begins = inFacets corners begins (isBent points)
+
+-- "for edge a to b, a corner c other than a, b has n·((b-a)×(c-a)) not above 0"
+abbrev pub strays : List ℤ → List ℤ → ℕ → ℕ → ℕ → Bool
+strays points n a b c = cond (eqb c a) false (cond (eqb c b) false (not (isLeft points n a b c)))
+
+unfoldable pub isTurn : List ℤ → List ℕ → ℕ → Bool
+isTurn points part p =
+    anyBelow (λ q. strays points (normalIn points part) (getD part p 0) (getD part (nextPosition (length part) p) 0) (getD part q 0)) (length part)
+
+abbrev pub turn : List ℤ → List ℕ → List ℕ → Found
+turn points corners begins = inFacets corners begins (isTurn points)
+
+-- ---- BENT at each position
+
+module _ (points : List ℤ) (part : List ℕ) where
+  bent-start : None (isBent points part) 2
+  unfolding isBent
+  bent-start = none-more (none-more (none-0 (isBent points part)) refl) refl
+
+  bent-third : isBent points part 2 ≡ inLine points (getD part 0 0) (getD part 1 0) (getD part 2 0)
+  unfolding isBent
+  bent-third = refl
+
+  pub bent-later : {p : ℕ} → 3 ≤ p → isBent points part p ≡ not (isOn (sideAt points part (getD part p 0)))
+  unfolding isBent
+  bent-later {p} l = rw (le-ltb p 2 (omega arith), ne-eqb p 2 (omega arith))
+
+  -- where the loop over the later corners begins, and where it isn't reached
+  pub in-line-at : 3 ≤ length part → inLine points (getD part 0 0) (getD part 1 0) (getD part 2 0) ≡ true → 2 ≡ firstBelow (isBent points part) (length part)
+  in-line-at l e = found bent-start (bent-third ∙ e) (omega arith)
+
+  pub not-in-line : inLine points (getD part 0 0) (getD part 1 0) (getD part 2 0) ≡ false → None (isBent points part) 3
+  not-in-line e = none-more bent-start (bent-third ∙ e)
+
+  -- BENT finds nothing in a facet
+  pub no-bend : isBent points part 2 ≡ false → ((p : ℕ) → 3 ≤ p → p < length part → isOn (sideAt points part (getD part p 0)) ≡ true)
+      → (p : ℕ) → p < length part → isBent points part p ≡ false
+  unfolding isBent
+  no-bend third later zero l = refl
+  no-bend third later (suc zero) l = refl
+  no-bend third later (suc (suc zero)) l = third
+  no-bend third later (suc (suc (suc p))) l = bent-later (omega arith) ∙ ap not (later (suc (suc (suc p))) (omega arith) l)

@@ -1,0 +1,1 @@
+// The theorems on closed surfaces stand in specs/: this crate has no code.
