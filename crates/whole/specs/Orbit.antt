@@ -8,7 +8,7 @@ use native.Mathlib.Decide.{ℕ-discrete, decLt}
 use lib.Dec.{eqb}
 use borrow.Author.Tests.{eqb-true, eqb-false, not-true}
 use Rattle.whole.specs.First.{firstBelow, never, first-holds}
-use Rattle.whole.specs.Count.{Distinct, all-met, countBelow, gap, but, count-but, both}
+use Rattle.whole.specs.Count.{Distinct, all-met, countBelow, gap, but, count-but, both, is-false}
 
 unfoldable pub iterate : (ℕ → ℕ) → ℕ → ℕ → ℕ
 iterate s zero p = p
@@ -67,10 +67,6 @@ return-first {s = s} {p = p} S l h j (suc k) e =
     return-first S l h j k (S .once _ _ c a d b (sym (shift s j (iterate s k p)) ∙ e))
 
 -- ---- the other way
-
-is-false : (t : Bool) → (t ≡ true → ⊥) → t ≡ false
-is-false true h = absurd (h refl)
-is-false false h = refl
 
 -- a test that holds only at the first j of g holds no more than j times
 abbrev pub Covered : (ℕ → Bool) → ℕ → ℕ → (ℕ → ℕ) → Type 0
