@@ -19,7 +19,7 @@ stepOf corners begins p = nextOf begins (acrossOf corners begins p)
 
 -- the place before p in its facet
 pub prev : {corners begins : List ℕ} → Laid corners begins → {p : ℕ} → p < length corners → (r : ℕ) × (r < length corners) × (nextOf begins r ≡ p)
-prev {begins = begins} L {p} l = go (ℕ-discrete p (begin begins f))
+prev {corners} {begins} L {p} l = go (ℕ-discrete p (begin begins f))
   where
     f : ℕ
     f = homeOf begins p

@@ -10,17 +10,13 @@ use Rattle.whole.specs.First.{None, never, none-all}
 use Rattle.tables.specs.Tables.{facets, begin, sides, homeOf}
 use Rattle.tables.specs.Size.{Laid}
 use Rattle.tables.specs.Places.{home, home-is, home-rise, place-in, place-below}
-use Rattle.tables.specs.Found.{firstPlace, Nowhere, NoPlace, Sought, sought, place-at, place-none, First, first-is, no-place-is}
+use Rattle.tables.specs.Found.{firstPlace, Nowhere, first-is, no-place-is, first-none}
 use Rattle.tables.specs.declared.Found.{Found}
 use Rattle.tables.specs.declared.Found.the-variants.{At, Nothing}
 
 -- the first position, facet by facet, at whose place the test holds
 abbrev pub byFacets : List ℕ → (ℕ → Bool) → Found
 byFacets begins test = firstPlace (facets begins) (sides begins) (λ f p. test (begin begins f + p))
-
-is-none : {n : ℕ} {sizes : ℕ → ℕ} {test : ℕ → ℕ → Bool} {r : Found} → Sought n sizes test r → r ≡ Nothing → NoPlace n sizes test
-is-none (place-at h) e = let z : _≡_ {A = ℕ} 0 1 = cc in absurd (omega arith)
-is-none (place-none h) e = h
 
 -- the places of an earlier facet are earlier
 early : {corners begins : List ℕ} {p : ℕ} (L : Laid corners begins) (g q : ℕ) → p < length corners → g < homeOf begins p → q < sides begins g → begin begins g + q < p
@@ -54,4 +50,4 @@ module _ {corners begins : List ℕ} (L : Laid corners begins) (test : ℕ → B
   none-flat e p l =
       let i = home L l in
       let again : begin begins (homeOf begins p) + (p - begin begins (homeOf begins p)) ≡ p = omega (arith, i .low) in
-      rw again at (is-none (sought (facets begins) (sides begins) (λ f p. test (begin begins f + p))) e (homeOf begins p) (p - begin begins (homeOf begins p)) (omega (arith, i .facet)) (omega (arith, i .low, i .high)))
+      rw again at (first-none (facets begins) (sides begins) (λ f p. test (begin begins f + p)) e (homeOf begins p) (p - begin begins (homeOf begins p)) (omega (arith, i .facet)) (omega (arith, i .low, i .high)))
