@@ -1,0 +1,3 @@
+-- Numbers 7 and 8.
+pub mod Step
+pub mod Ring
