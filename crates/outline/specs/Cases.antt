@@ -62,6 +62,11 @@ one-place : judgedOutline (pos 5 ∷ pos 5 ∷ pos 5 ∷ pos 5 ∷ pos 5 ∷ pos
 unfolding judgedOutline judgedTurns few firstBelow isOut det coordOf before after
 one-place = refl
 
+-- case O from its second point on: the second far point is the last
+last : judgedOutline (negsuc 2 ∷ pos 2 ∷ pos 1 ∷ negsuc 3 ∷ pos 1 ∷ pos 4 ∷ negsuc 2 ∷ negsuc 1 ∷ pos 4 ∷ pos 0 ∷ []) ≡ verdict 26 4
+unfolding judgedOutline judgedTurns few firstBelow isOut det isGreater coordOf before after
+last = refl
+
 -- a triangle gone round twice
 twice : judgedOutline (pos 0 ∷ pos 0 ∷ pos 2 ∷ pos 0 ∷ pos 0 ∷ pos 2 ∷ pos 0 ∷ pos 0 ∷ pos 2 ∷ pos 0 ∷ pos 0 ∷ pos 2 ∷ []) ≡ verdict 26 4
 unfolding judgedOutline judgedTurns few firstBelow isOut det isGreater coordOf before after

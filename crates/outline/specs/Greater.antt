@@ -3,7 +3,7 @@ use mathlib.Core.Path.{_≡_, sym}
 use mathlib.Core.Logic.{_⊎_, inl, inr}
 use lib.IntN.{ℤ, pos, negsuc}
 use lib.Signed.{_≤ℤ_, _<ℤ_, ltZ}
-use Rattle.whole.specs.Solver.{num}
+use Rattle.whole.specs.Solver.{Expr, num}
 use Rattle.whole.specs.Order.{_≼_, _≺_, _≃_, _⇒_, _since_, hyp, lit, by, _⊞_, _⊠_, lt→le, eq→le, le-or-lt, trichotomy, true-ltZ, false-ltZ}
 use Rattle.whole.specs.Bounds.{_within_, within-low, within-high}
 use Rattle.whole.specs.Formula.{exprs}
@@ -15,24 +15,25 @@ use Rattle.outline.specs.Outline.{isGreater}
 abbrev pub down : Vec ℤ
 down = vec (pos 1) (negsuc 16382)
 
+-- how far left of it a vector leads, for the solver
+abbrev leftward : Vec Expr → Expr
+leftward = detᵒ exprs (vec (num (pos 1)) (num (negsuc 16382)))
+
 by-x : (a b : Vec ℤ) → a .y within limit → b .y within limit → a .x <ℤ b .x → det down a <ℤ det down b
 unfolding det
 by-x a b ha hb h =
-    prove² 2 (λ a b. let d = detᵒ exprs (vec (num (pos 1)) (num (negsuc 16382))) in
-    a .x ≺ b .x ⇒ λ h. a .y ≼ num (pos 8191) ⇒ λ p. num (negsuc 8190) ≼ b .y ⇒ λ q. d a ≺ d b since lit 16383 ⊠ hyp h ⊞ hyp p ⊞ hyp q)
+    prove² 2 (λ a b. a .x ≺ b .x ⇒ λ h. a .y ≼ num (pos 8191) ⇒ λ p. num (negsuc 8190) ≼ b .y ⇒ λ q. leftward a ≺ leftward b since lit 16383 ⊠ hyp h ⊞ hyp p ⊞ hyp q)
     tt a b h (within-high ha) (within-low hb)
 
 by-y : (a b : Vec ℤ) → a .x ≡ b .x → a .y <ℤ b .y → det down a <ℤ det down b
 unfolding det
 by-y =
-    prove² 2 (λ a b. let d = detᵒ exprs (vec (num (pos 1)) (num (negsuc 16382))) in
-    a .x ≃ b .x ⇒ λ e. a .y ≺ b .y ⇒ λ h. d a ≺ d b since by (num (pos 16383)) e ⊞ hyp h) tt
+    prove² 2 (λ a b. a .x ≃ b .x ⇒ λ e. a .y ≺ b .y ⇒ λ h. leftward a ≺ leftward b since by (num (pos 16383)) e ⊞ hyp h) tt
 
 up-to-y : (a b : Vec ℤ) → a .x ≡ b .x → a .y ≤ℤ b .y → det down a ≤ℤ det down b
 unfolding det
 up-to-y =
-    prove² 2 (λ a b. let d = detᵒ exprs (vec (num (pos 1)) (num (negsuc 16382))) in
-    a .x ≃ b .x ⇒ λ e. a .y ≼ b .y ⇒ λ h. d a ≼ d b since by (num (pos 16383)) e ⊞ hyp h) tt
+    prove² 2 (λ a b. a .x ≃ b .x ⇒ λ e. a .y ≼ b .y ⇒ λ h. leftward a ≼ leftward b since by (num (pos 16383)) e ⊞ hyp h) tt
 
 module _ (u v : Vec ℤ) (hu : u .y within limit) (hv : v .y within limit) where
   pub greater : isGreater u v ≡ ltZ (det down v) (det down u)

@@ -24,7 +24,7 @@ rises = climb _<ℤ_ <-trans
 pub falls : (f : ℕ → ℤ) (a b : ℕ) → a < b → ((j : ℕ) → a ≤ j → j < b → f (suc j) <ℤ f j) → f b <ℤ f a
 falls = climb (λ x y. y <ℤ x) (λ x y z h k. <-trans z y x k h)
 
--- from a to b each step after one that does not rise falls: between a and b it is above what it is at a or at b
+-- where from a to b every step after one that does not rise falls, what is not negative at a and at b is positive between
 pub hill : (f : ℕ → ℤ) (a b : ℕ) → pos 0 ≤ℤ f a → pos 0 ≤ℤ f b
     → ((k l : ℕ) → a ≤ k → k < l → l < b → f (suc k) ≤ℤ f k → f (suc l) <ℤ f l) → (j : ℕ) → a < j → j < b → pos 0 <ℤ f j
 hill f a b at-a at-b fall zero l m = absurd (not-suc-le-zero l)

@@ -18,19 +18,18 @@ use Rattle.outline.specs.Limits.{counted, not-few, none-out, in-range}
 abbrev pub None : (ℕ → Bool) → ℕ → Type 0
 None test n = (i : ℕ) → i < n → test i ≡ false
 
--- two numbers that differ, by computation
-infix 50 _≠_
-abbrev pub _≠_ : ℕ → ℕ → Type 0
-a ≠ b = T (not (eqb a b))
+-- two numbers differ, by computation
+abbrev pub Other : ℕ → ℕ → Type 0
+Other a b = T (not (eqb a b))
 
-pub differ : {a b i j : ℕ} → a ≠ b → verdict a i ≢ verdict b j
+pub differ : {a b i j : ℕ} → Other a b → verdict a i ≢ verdict b j
 differ {a} {b} t e = subst (λ c. T (not c)) (eq-eqb a b (ap (λ v. v .number) e)) t
 
 -- ---- one refusal, and what comes later
 
 module _ (number : ℕ) (test : ℕ → Bool) (n : ℕ) (later : Verdict) where
   -- an answer with another number
-  pub passed : (m i : ℕ) → number ≠ m → (refuse number test n later ≡ verdict m i) ↔ (None test n × (later ≡ verdict m i))
+  pub passed : (m i : ℕ) → Other number m → (refuse number test n later ≡ verdict m i) ↔ (None test n × (later ≡ verdict m i))
   passed m i t = (to, λ h. sym (miss (verdict number) later (none-all test n (h .0)) (omega arith) (omega arith)) ∙ h .1)
     where
       to : refuse number test n later ≡ verdict m i → None test n × (later ≡ verdict m i)
@@ -48,16 +47,13 @@ module _ (number : ℕ) (test : ℕ → Bool) (n : ℕ) (later : Verdict) where
 -- ---- the four
 
 module _ (points : List ℤ) where
-  abbrev n : ℕ
-  n = count points
-
   abbrev pub afterFew : Verdict
-  afterFew = refuse 2 (outOfRange points) n (judgedTurns points)
+  afterFew = refuse 2 (outOfRange points) (count points) (judgedTurns points)
 
   abbrev pub afterLeft : Verdict
-  afterLeft = refuse 26 (wound points) n (verdict 0 n)
+  afterLeft = refuse 26 (wound points) (count points) (verdict 0 (count points))
 
-  pub past-few : (m i : ℕ) → 24 ≠ m → (judgedOutline points ≡ verdict m i) ↔ (Counted points × (afterFew ≡ verdict m i))
+  pub past-few : (m i : ℕ) → Other 24 m → (judgedOutline points ≡ verdict m i) ↔ (Counted points × (afterFew ≡ verdict m i))
   unfolding judgedOutline
   past-few m i t = (to (few (length points)) refl, λ h. rw (not-few points (h .0)) (h .1))
     where
@@ -65,11 +61,11 @@ module _ (points : List ℤ) where
       to true e h = absurd (differ t h)
       to false e h = (counted points e, h)
 
-  pub past-range : (m i : ℕ) → 24 ≠ m → 2 ≠ m → (judgedOutline points ≡ verdict m i) ↔ (Limits points × (judgedTurns points ≡ verdict m i))
+  pub past-range : (m i : ℕ) → Other 24 m → Other 2 m → (judgedOutline points ≡ verdict m i) ↔ (Limits points × (judgedTurns points ≡ verdict m i))
   past-range m i t u = (to, λ h. past-few m i t .1 (h .0 .counted, ranges .1 (λ j l. none-out points (h .0 .range) j, h .1)))
     where
-      ranges : (afterFew ≡ verdict m i) ↔ (None (outOfRange points) n × (judgedTurns points ≡ verdict m i))
-      ranges = passed 2 (outOfRange points) n (judgedTurns points) m i u
+      ranges : (afterFew ≡ verdict m i) ↔ (None (outOfRange points) (count points) × (judgedTurns points ≡ verdict m i))
+      ranges = passed 2 (outOfRange points) (count points) (judgedTurns points) m i u
 
       to : judgedOutline points ≡ verdict m i → Limits points × (judgedTurns points ≡ verdict m i)
       to e =
@@ -77,11 +73,11 @@ module _ (points : List ℤ) where
           let b = ranges .0 (a .1) in
           (record { counted = a .0; range = in-range points (a .0) (b .0) }, b .1)
 
-  turned : (m i : ℕ) → 25 ≠ m → (judgedTurns points ≡ verdict m i) ↔ (None (notLeft points) n × (afterLeft ≡ verdict m i))
+  turned : (m i : ℕ) → Other 25 m → (judgedTurns points ≡ verdict m i) ↔ (None (notLeft points) (count points) × (afterLeft ≡ verdict m i))
   unfolding judgedTurns
-  turned m i t = passed 25 (notLeft points) n afterLeft m i t
+  turned m i t = passed 25 (notLeft points) (count points) afterLeft m i t
 
-  pub past-left : (m i : ℕ) → 24 ≠ m → 2 ≠ m → 25 ≠ m → (judgedOutline points ≡ verdict m i) ↔ (LocallyConvex points × (afterLeft ≡ verdict m i))
+  pub past-left : (m i : ℕ) → Other 24 m → Other 2 m → Other 25 m → (judgedOutline points ≡ verdict m i) ↔ (LocallyConvex points × (afterLeft ≡ verdict m i))
   past-left m i t u w = (to, λ h. past-range m i t u .1 (h .0 .limits, turned m i w .1 (λ j l. ap not (h .0 .turns j l), h .1)))
     where
       to : judgedOutline points ≡ verdict m i → LocallyConvex points × (afterLeft ≡ verdict m i)
@@ -90,16 +86,16 @@ module _ (points : List ℤ) where
           let b = turned m i w .0 (a .1) in
           (record { limits = a .0; turns = λ j l. not-false (left points j) (b .0 j l) }, b .1)
 
-  pub past-wound : (m i : ℕ) → 26 ≠ m → (afterLeft ≡ verdict m i) ↔ (None (wound points) n × (verdict 0 n ≡ verdict m i))
-  past-wound = passed 26 (wound points) n (verdict 0 n)
+  pub past-wound : (m i : ℕ) → Other 26 m → (afterLeft ≡ verdict m i) ↔ (None (wound points) (count points) × (verdict 0 (count points) ≡ verdict m i))
+  past-wound = passed 26 (wound points) (count points) (verdict 0 (count points))
 
   -- ---- no number is answered later in the order
 
-  pub not-after-left : (m i : ℕ) → 26 ≠ m → 0 ≠ m → afterLeft ≢ verdict m i
+  pub not-after-left : (m i : ℕ) → Other 26 m → Other 0 m → afterLeft ≢ verdict m i
   not-after-left m i t u e = differ u (past-wound m i t .0 e .1)
 
-  pub not-turns : (m i : ℕ) → 25 ≠ m → 26 ≠ m → 0 ≠ m → judgedTurns points ≢ verdict m i
+  pub not-turns : (m i : ℕ) → Other 25 m → Other 26 m → Other 0 m → judgedTurns points ≢ verdict m i
   not-turns m i t u w e = not-after-left m i u w (turned m i t .0 e .1)
 
   pub not-after-few : (i : ℕ) → afterFew ≢ verdict 24 i
-  not-after-few i e = not-turns 24 i tt tt tt (passed 2 (outOfRange points) n (judgedTurns points) 24 i tt .0 e .1)
+  not-after-few i e = not-turns 24 i tt tt tt (passed 2 (outOfRange points) (count points) (judgedTurns points) 24 i tt .0 e .1)

@@ -1,11 +1,12 @@
--- The outline judge: the definitions that the promises cite, and what its answers mean.
+-- The outline judge: what it answers, case by case, and what each answer means; then the lemmas.
 pub mod Outline
+pub mod Second
+pub mod Cases
 pub mod Meaning
 pub mod InOrder
-pub mod Cases
 pub mod Limits
-pub mod Greater
-pub mod Hill
-pub mod Second
-pub mod Ring
 pub mod Round
+pub mod Greater
+pub mod Ring
+pub mod Sides
+pub mod Hill

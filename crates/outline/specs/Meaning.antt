@@ -1,30 +1,24 @@
 -- What each answer of the outline judge means, both ways. Assumes nothing.
 use mathlib.Core.Path.{_≡_, refl, sym, _∙_, ap}
-use mathlib.Core.Bool.{Bool, true, false, cond, not, true≢false}
+use mathlib.Core.Bool.{Bool, true, false, cond, true≢false}
 use mathlib.Core.List.{List}
 use mathlib.Core.Logic.{_↔_, Iff·trans, Iff·and, Iff·rfl}
 use Prim.Native.Nat.{ℕ}
 use lib.IntN.{ℤ}
 use lib.ListN.{length}
-use borrow.Author.Tests.{not-false}
 use Rattle.whole.specs.First.{FirstAt}
 use Rattle.outline.specs.declared.Verdict.{Verdict}
-use Rattle.outline.specs.Outline.{count, few, outOfRange, left, notLeft, far, wound, verdict, judgedTurns, judgedOutline, Counted, Limits, LocallyConvex, AllLeft}
+use Rattle.outline.specs.Outline.{count, few, outOfRange, notLeft, far, wound, verdict, judgedTurns, judgedOutline, Counted, Limits, LocallyConvex, AllLeft}
 use Rattle.outline.specs.Limits.{counted, not-few}
 use Rattle.outline.specs.InOrder.{differ, refused, afterFew, afterLeft, past-few, past-range, past-left, past-wound, not-after-few, not-turns, not-after-left}
-use Rattle.outline.specs.Second.{AtMostOne, One, Second, at-most-one, no-second, exactly-one, at-most, the-second}
-use Rattle.outline.specs.Greater.{down}
-use Rattle.outline.specs.Ring.{Turns, convex, convex-turns, convex-one-far}
-use Rattle.outline.specs.Round.{ring, round, all-turns, turns-all, ring-one, one-ring, far-exists, slope, to-left, from-left}
+use Rattle.outline.specs.Second.{AtMostOne, One, Second, at-most-one, no-second, the-second}
+use Rattle.outline.specs.Round.{theorem-5, one-far}
 
 -- no two outcomes satisfy the judge's promise
 pub one-outcome : (points : List ℤ) (r s : Verdict) → r ≡ judgedOutline points → s ≡ judgedOutline points → r ≡ s
 one-outcome points r s e f = e ∙ sym f
 
 module _ (points : List ℤ) where
-  abbrev n : ℕ
-  n = count points
-
   -- ---- the refusals
 
   -- "24 FEW, numbers not in pairs or count outside limits", and "FEW gives place 0"
@@ -41,60 +35,42 @@ module _ (points : List ℤ) where
       from false e h = absurd (h .0 (counted points e))
 
   -- "2 RANGE, first point" with a coordinate outside its limits
-  pub range-means : (i : ℕ) → (judgedOutline points ≡ verdict 2 i) ↔ (Counted points × FirstAt (outOfRange points) n i)
-  range-means i = Iff·trans (past-few points 2 i tt) (Iff·and Iff·rfl (refused 2 (outOfRange points) n (judgedTurns points) i (not-turns points 2 i tt tt tt)))
+  pub range-means : (i : ℕ) → (judgedOutline points ≡ verdict 2 i) ↔ (Counted points × FirstAt (outOfRange points) (count points) i)
+  range-means i = Iff·trans (past-few points 2 i tt) (Iff·and Iff·rfl (refused 2 (outOfRange points) (count points) (judgedTurns points) i (not-turns points 2 i tt tt tt)))
 
   -- "25 LEFT, first point whose turn isn't left"
-  pub left-means : (i : ℕ) → (judgedOutline points ≡ verdict 25 i) ↔ (Limits points × FirstAt (notLeft points) n i)
+  pub left-means : (i : ℕ) → (judgedOutline points ≡ verdict 25 i) ↔ (Limits points × FirstAt (notLeft points) (count points) i)
   unfolding judgedTurns
-  left-means i = Iff·trans (past-range points 25 i tt tt) (Iff·and Iff·rfl (refused 25 (notLeft points) n (afterLeft points) i (not-after-left points 25 i tt tt)))
+  left-means i = Iff·trans (past-range points 25 i tt tt) (Iff·and Iff·rfl (refused 25 (notLeft points) (count points) (afterLeft points) i (not-after-left points 25 i tt tt)))
 
   -- "26 WOUND, second far point counting from point 0"
-  pub wound-means : (i : ℕ) → (judgedOutline points ≡ verdict 26 i) ↔ (LocallyConvex points × Second (far points) n i)
+  pub wound-means : (i : ℕ) → (judgedOutline points ≡ verdict 26 i) ↔ (LocallyConvex points × Second (far points) (count points) i)
   wound-means i =
       Iff·trans (past-left points 26 i tt tt tt)
-      (Iff·and Iff·rfl (Iff·trans (refused 26 (wound points) n (verdict 0 n) i (differ tt)) (the-second (far points) n i)))
+      (Iff·and Iff·rfl (Iff·trans (refused 26 (wound points) (count points) (verdict 0 (count points)) i (differ tt)) (the-second (far points) (count points) i)))
 
   -- ---- acceptance
 
-  tests : (i : ℕ) → (judgedOutline points ≡ verdict 0 i) ↔ ((LocallyConvex points × AtMostOne (far points) n) × (i ≡ n))
-  tests i = (to, λ h. past-left points 0 i tt tt tt .1 (h .0 .0, past-wound points 0 i tt .1 (no-second (far points) n (h .0 .1), ap (verdict 0) (sym (h .1)))))
+  tests : (i : ℕ) → (judgedOutline points ≡ verdict 0 i) ↔ ((LocallyConvex points × AtMostOne (far points) (count points)) × (i ≡ count points))
+  tests i = (to, λ h. past-left points 0 i tt tt tt .1 (h .0 .0, past-wound points 0 i tt .1 (no-second (far points) (count points) (h .0 .1), ap (verdict 0) (sym (h .1)))))
     where
-      to : judgedOutline points ≡ verdict 0 i → (LocallyConvex points × AtMostOne (far points) n) × (i ≡ n)
+      to : judgedOutline points ≡ verdict 0 i → (LocallyConvex points × AtMostOne (far points) (count points)) × (i ≡ count points)
       to e =
           let a = past-left points 0 i tt tt tt .0 e in
           let b = past-wound points 0 i tt .0 (a .1) in
-          ((a .0, at-most-one (far points) n (b .0)), ap (λ v. v .place) (sym (b .1)))
-
-  -- Theorem 5 of document 001, both ways
-  theorem-5 : (LocallyConvex points × AtMostOne (far points) n) ↔ (Limits points × AllLeft points)
-  theorem-5 = (to, from)
-    where
-      to : LocallyConvex points × AtMostOne (far points) n → Limits points × AllLeft points
-      to (c, one) =
-          let three = c .limits .counted .least in
-          let range = c .limits .range in
-          let turns = all-turns points three (λ i l. ap not (c .turns i l)) in
-          (c .limits, to-left points three (convex down n (ring points three) (round points three) (slope points three range turns) (ring-one points three range one) turns))
-
-      from : Limits points × AllLeft points → LocallyConvex points × AtMostOne (far points) n
-      from (l, h) =
-          let three = l .counted .least in
-          let all = from-left points three h in
-          let turns = turns-all points three (convex-turns down n (ring points three) (round points three) three all) in
-          let one = convex-one-far down n (ring points three) (round points three) three all in
-          (record { limits = l; turns = λ i m. not-false (left points i) (turns i m) }, one-ring points three (l .range) one)
+          ((a .0, at-most-one (far points) (count points) (b .0)), ap (λ v. v .place) (sym (b .1)))
 
   -- "Acceptance is proved equal to the meaning", and "Acceptance gives 0 and the count"
-  pub accepted : (i : ℕ) → (judgedOutline points ≡ verdict 0 i) ↔ ((Limits points × AllLeft points) × (i ≡ n))
-  accepted i = Iff·trans (tests i) (Iff·and theorem-5 Iff·rfl)
+  pub accepted : (i : ℕ) → (judgedOutline points ≡ verdict 0 i) ↔ ((Limits points × AllLeft points) × (i ≡ count points))
+  accepted i = Iff·trans (tests i) (Iff·and (theorem-5 points) Iff·rfl)
 
   -- "At each point the turn .. is strictly left, and exactly one point is a far point"
-  pub accepted-far : (i : ℕ) → (judgedOutline points ≡ verdict 0 i) ↔ ((LocallyConvex points × One (far points) n) × (i ≡ n))
-  accepted-far i = Iff·trans (tests i) (Iff·and (λ h. (h .0, exactly (h .0) (h .1)), λ h. (h .0, at-most (far points) n (h .1))) Iff·rfl)
-    where
-      exactly : LocallyConvex points → AtMostOne (far points) n → One (far points) n
-      exactly c one =
-          let three = c .limits .counted .least in
-          let k = far-exists points three (c .limits .range) (all-turns points three (λ i l. ap not (c .turns i l))) in
-          exactly-one (far points) n (k .0) one (k .1) (k .2)
+  pub accepted-far : (i : ℕ) → (judgedOutline points ≡ verdict 0 i) ↔ ((LocallyConvex points × One (far points) (count points)) × (i ≡ count points))
+  accepted-far i = Iff·trans (tests i) (Iff·and (one-far points) Iff·rfl)
+
+  -- the same, for a caller that looks at the number alone
+  pub accepted-number : (judgedOutline points .number ≡ 0) ↔ (Limits points × AllLeft points)
+  accepted-number = (
+    λ e. accepted (judgedOutline points .place) .0 (λ t. record { number = e t; place = judgedOutline points .place }) .0,
+    λ h. ap (λ v. v .number) (accepted (count points) .1 (h, refl)),
+  )

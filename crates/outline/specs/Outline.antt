@@ -8,7 +8,8 @@ use lib.Dec.{ltb, eqb}
 use lib.IntN.{ℤ, pos}
 use lib.ListN.{length, getD}
 use lib.Signed.{ltZ, _<ℤ_}
-use Rattle.whole.specs.First.{anyBelow, pickBelow}
+use Rattle.whole.specs.First.{pickBelow}
+use Rattle.outline.specs.Second.{again}
 use Rattle.space.specs.Plane.{Vec, vec, sub, det}
 use Rattle.space.specs.Range.{isOut, InRange}
 use Rattle.outline.specs.declared.Verdict.{Verdict}
@@ -66,9 +67,9 @@ isGreater u v = ltZ (v .x) (u .x) || (not (ltZ (u .x) (v .x)) && ltZ (v .y) (u .
 abbrev pub far : List ℤ → ℕ → Bool
 far points i = isGreater (point points i) (point points (before (count points) i)) && isGreater (point points i) (point points (after (count points) i))
 
--- "26 WOUND": point i is far, and so is a point before it
+-- "26 WOUND": point i is the second far point, or a later one
 abbrev pub wound : List ℤ → ℕ → Bool
-wound points i = anyBelow (far points) i && far points i
+wound points = again (far points)
 
 -- ---- the answer
 
@@ -79,13 +80,14 @@ verdict number place = record { number = number; place = place }
 abbrev pub refuse : ℕ → (ℕ → Bool) → ℕ → Verdict → Verdict
 refuse number test n later = pickBelow test n (verdict number) later
 
--- "Refusals in order", and "Acceptance gives 0 and the count"
+-- LEFT, WOUND, and "Acceptance gives 0 and the count"
 unfoldable pub judgedTurns : List ℤ → Verdict
 judgedTurns points =
     refuse 25 (notLeft points) (count points)
     (refuse 26 (wound points) (count points)
     (verdict 0 (count points)))
 
+-- "Refusals in order": FEW, RANGE, and then those
 unfoldable pub judgedOutline : List ℤ → Verdict
 judgedOutline points =
     cond (few (length points)) (verdict 24 0)
@@ -100,7 +102,7 @@ pub record Counted (points : List ℤ) : Type 0 where
   pub least : 3 ≤ count points
   pub most : count points ≤ 4096
 
--- "same coordinate limits"
+-- "x, y pairs, 3 to 4,096 points, same coordinate limits"
 pub record Limits (points : List ℤ) : Type 0 where
   pub counted : Counted points
   pub range : InRange points
