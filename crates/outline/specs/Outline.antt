@@ -5,7 +5,7 @@ use mathlib.Core.Logic.{_≢_}
 use mathlib.Core.Bool.{Bool, true, cond, not, _&&_, _||_}
 use mathlib.Core.List.{List}
 use lib.Dec.{ltb, eqb}
-use lib.IntN.{ℤ, pos}
+use lib.IntN.{ℤ, pos, _-ℤ_}
 use lib.ListN.{length, getD}
 use lib.Signed.{ltZ, _<ℤ_}
 use Rattle.whole.specs.First.{pickBelow}
@@ -26,6 +26,10 @@ Point points i = i < count points
 -- coordinate k of point i
 unfoldable pub coordOf : List ℤ → ℕ → ℕ → ℤ
 coordOf points i k = getD points (i * 2 + k) (pos 0)
+
+-- coordinate k of the step from point a to point b
+unfoldable pub stepOf : List ℤ → ℕ → ℕ → ℕ → ℤ
+stepOf points a b k = coordOf points b k -ℤ coordOf points a k
 
 abbrev pub point : List ℤ → ℕ → Vec ℤ
 point points i = vec (coordOf points i 0) (coordOf points i 1)

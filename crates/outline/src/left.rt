@@ -5,16 +5,15 @@ use crate::points::point_before;
 use space::minor;
 ghost use mathlib.Core.Path.{_≡_};
 ghost use Prim.Native.Nat.{_<_};
-ghost use lib.IntN.{_-ℤ_};
 ghost use Rattle.whole.specs.First.{firstBelow};
 ghost use Rattle.space.specs.Range.{InRange};
 ghost use Rattle.space.specs.Rows.{Step};
-ghost use Rattle.outline.specs.Outline.{count, Point, coordOf, point, isLeft, left, notLeft};
+ghost use Rattle.outline.specs.Outline.{count, Point, point, stepOf, isLeft, left, notLeft};
 
 // Coordinate k of the step from point a to point b.
 fn step(points: &[i32], a: usize, b: usize, k: usize) -> i64
     requires { ⌜ InRange (now points) × Point (now points) a × Point (now points) b × (k < 2) ⌝ }
-    ensures { λ r. ⌜ (r ≡ coordOf (now (points .entry)) b k -ℤ coordOf (now (points .entry)) a k) × Step r ⌝ }
+    ensures { λ r. ⌜ (r ≡ stepOf (now (points .entry)) a b k) × Step r ⌝ }
 {
     coord(points, b, k) - coord(points, a, k)
 }

@@ -3,10 +3,12 @@ use borrow.Author.Needs.{needs, sfits-of}
 use mir.Facts.{toZ-ofZ}
 use mir.Syntax.{w64}
 use Rattle.whole.specs.Machine.{handed}
+use Rattle.outline.specs.Outline.{stepOf}
 use Rattle.outline.proofs.left.is_left.Statement.{statement}
 use Rattle.outline.proofs.left.is_left.Tie as tie
 
 returns : tie.Need-returns
+unfolding stepOf
 returns c =
     let c₄ = c .before in
     let c₃ = c₄ .before in
