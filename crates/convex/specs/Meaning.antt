@@ -21,14 +21,14 @@ use Rattle.space.specs.Rows.{listOf}
 use Rattle.space.specs.Sides.{isInside, isOn, inside-below, below-inside, on-zero, zero-on, above-zero, zero-of}
 use Rattle.tables.specs.Tables.{facets, begin, sides, facetOf, cornerOf, nextPosition, isAt, homeOf, from, to}
 use Rattle.tables.specs.Size.{Laid}
-use Rattle.tables.specs.Places.{part-length, sides-some, corner-at, place-in, place-below, home, home-is, next-corner}
+use Rattle.tables.specs.Places.{part-length, sides-some, place-in, home, home-is}
 use Rattle.tables.specs.Found.{NoPlace, first-none, no-place-is}
 use Rattle.tables.specs.declared.Found.the-variants.{Nothing}
 use Rattle.edges.specs.Pair.{Paired}
 use Rattle.edges.specs.Across.{acrossOf, across, edge-once}
 use Rattle.flat.specs.Facet.{Measured}
 use Rattle.flat.specs.Rules.{sideAt, normalIn, strays, isBent, isTurn, bent, turn, bent-later, bent-third, no-bend}
-use Rattle.closed.specs.Bridge.{tablesOf}
+use Rattle.bridge.specs.Surface.{tablesOf, place-names, place-runs}
 use Rattle.solid.specs.Tables.{Tables, Place, Corner, next, after, normal, Flat, Outside, Reflex, Inside}
 use Rattle.convex.specs.Rules.{isBeyond, isReflex, isOutside, reflex, outside, beyond}
 
@@ -161,13 +161,13 @@ module _ (points : List ℤ) {corners begins : List ℕ} (L : Laid corners begin
   -- ---- REFLEX, where PAIR passes
 
   from-is : {f i : ℕ} → Place t f i → from corners (begin begins f + i) ≡ cornerOf corners begins f i
-  from-is p = sym (corner-at L (p .facet) (p .position))
+  from-is p = place-names points L p .starts
 
-  pub to-is : {f i : ℕ} → Place t f i → to corners begins (begin begins f + i) ≡ next t f i
-  to-is {f} {i} p = next-corner L (p .facet) (p .position) ∙ ap (cornerOf corners begins f) (after-is (sides begins f) i)
+  to-is : {f i : ℕ} → Place t f i → to corners begins (begin begins f + i) ≡ next t f i
+  to-is p = place-runs points L p .ends
 
   below : {f i : ℕ} → Place t f i → begin begins f + i < length corners
-  below p = place-below L (p .facet) (p .position)
+  below p = place-names points L p .below
 
   -- position j of g names the reverse of the edge at position i of f
   record Opposite (f i g j : ℕ) : Type 0 where

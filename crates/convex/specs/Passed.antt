@@ -13,17 +13,17 @@ use Rattle.whole.specs.Count.{lastBelow, last as lastPlace, both}
 use Rattle.space.specs.Range.{limit}
 use Rattle.space.specs.Points.{vertices}
 use Rattle.tables.specs.Tables.{facets, begin, sides, facetOf, cornerOf, from, to}
-use Rattle.tables.specs.Places.{Sound, part-length, sides-some, corner-at, place-below, next-below}
+use Rattle.tables.specs.Places.{part-length, next-below}
 use Rattle.tables.specs.Found.{first-none}
 use Rattle.tables.specs.declared.Found.the-variants.{Nothing}
 use Rattle.edges.specs.Chains.{leaves}
 use Rattle.flat.specs.Facet.{Measured}
-use Rattle.closed.specs.Bridge.{tablesOf}
-use Rattle.solid.specs.Tables.{Tables, Place, Sized, Ranged, Closed, Flat, Outside, Reflex, Neighbours}
+use Rattle.bridge.specs.Surface.{tablesOf, sized-tables, place-names, place-runs}
+use Rattle.solid.specs.Tables.{Tables, Ranged, Closed, Flat, Outside, Reflex, Neighbours}
 use Rattle.solid.specs.Theorems.{local-global}
 use Rattle.convex.specs.Rules.{isOutside, outside}
 use Rattle.convex.specs.Near.{leadsOut, isNear, nearPart, near, out-entry}
-use Rattle.convex.specs.Meaning.{inside-of, inside-outside, to-is}
+use Rattle.convex.specs.Meaning.{inside-of, inside-outside}
 
 -- tables that pass 1 to 11
 pub record Passed (points : List ℤ) (corners begins : List ℕ) : Type 0 where
@@ -35,13 +35,6 @@ pub record Passed (points : List ℤ) (corners begins : List ℕ) : Type 0 where
 module _ {points : List ℤ} {corners begins : List ℕ} (M : Measured points corners begins) where
   abbrev t : Tables
   t = tablesOf points corners begins
-
-  pub sized : Sized t
-  sized = record {
-    many = omega (arith, M .sound .laid .some);
-    big = λ f l. sides-some (M .sound .laid) l;
-    index = λ p. rw (corner-at (M .sound .laid) (p .facet) (p .position)) (M .sound .named .index _ (place-below (M .sound .laid) (p .facet) (p .position)));
-  }
 
   pub ranged : Ranged t limit
   ranged = record { range = λ w l. record { x = M .ranged w 0 l (omega arith); y = M .ranged w 1 l (omega arith); z = M .ranged w 2 l (omega arith) } }
@@ -63,16 +56,16 @@ module _ {points : List ℤ} {corners begins : List ℕ} (M : Measured points co
         let k : i < length (facetOf corners begins f) = rw (part-length laid (p .facet)) (p .position) in
         let x = any-false (λ i. isNear points corners begins (facetOf corners begins f) (getD (facetOf corners begins f) i 0)) (length (facetOf corners begins f))
         (any-false (λ f. nearPart points corners begins (facetOf corners begins f)) (facets begins) e f (p .facet)) i k in
-        let b = place-below laid (q .facet) (q .position) in
-        let y = none-out f (cornerOf corners begins f i) (begin begins g + j) x b (sym (corner-at laid (q .facet) (q .position)) ∙ s) in
-        inside-of points laid f _ (p .facet) (rw (to-is points laid q) at y) out;
+        let n = place-names points laid q in
+        let y = none-out f (cornerOf corners begins f i) (begin begins g + j) x (n .below) (n .starts ∙ s) in
+        inside-of points laid f _ (p .facet) (rw (place-runs points laid q .ends) at y) out;
   }
 
 -- so OUTSIDE finds nothing where the local test finds nothing
 pub near-enough : {points : List ℤ} {corners begins : List ℕ} → Passed points corners begins → near points corners begins ≡ false → outside points corners begins ≡ Nothing
 near-enough {points} p e =
     let m = p .measured in
-    inside-outside points (m .sound .laid) (local-global (sized m) (ranged m) (p .closed) (p .flat) (p .reflex) (neighbours m e))
+    inside-outside points (m .sound .laid) (local-global (sized-tables points (m .sound)) (ranged m) (p .closed) (p .flat) (p .reflex) (neighbours m e))
 
 -- and where the local test finds a vertex, OUTSIDE applies: no scan is made in vain
 pub near-needed : {points : List ℤ} {corners begins : List ℕ} → Measured points corners begins → near points corners begins ≡ true → outside points corners begins ≡ Nothing → ⊥

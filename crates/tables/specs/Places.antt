@@ -12,7 +12,7 @@ use lib.ListN.{length, getD, take, drop, length-take, length-drop}
 use lib.Seq.{getD-take, getD-drop}
 use borrow.Author.Tests.{lt-ltb, le-ltb, eqb-true, eqb-false}
 use Rattle.whole.specs.First.{firstBelow, none-all, found}
-use Rattle.tables.specs.Tables.{leastVertices, mostVertices, mostCorners, facets, begin, end, sides, facetOf, cornerOf, nextPosition, homeOf, nextOf, from, to}
+use Rattle.tables.specs.Tables.{leastVertices, mostVertices, mostCorners, facets, begin, end, sides, facetOf, cornerOf, homeOf, nextOf, from, to}
 use Rattle.tables.specs.Size.{Laid}
 
 -- each corner is one of n vertices
@@ -183,17 +183,3 @@ module _ {corners begins : List ℕ} (L : Laid corners begins) {f : ℕ} (l : f 
 
     pub place-below : begin begins f + p < length corners
     place-below = omega (arith, end-in-run)
-
--- the edge at position p ends at the corner of the next position
-pub next-corner : {corners begins : List ℕ} {f p : ℕ} → Laid corners begins → f < facets begins → p < sides begins f
-    → to corners begins (begin begins f + p) ≡ cornerOf corners begins f (nextPosition (sides begins f) p)
-next-corner {corners} {begins} {f} {p} L l h = go (eqb (p + 1) (sides begins f)) refl
-  where
-    go : (t : Bool) → eqb (p + 1) (sides begins f) ≡ t → to corners begins (begin begins f + p) ≡ cornerOf corners begins f (cond t 0 (p + 1))
-    go true e =
-        let s = eqb-true (p + 1) (sides begins f) e in
-        ap (from corners) (next-wrap L (place-in L l h) (omega arith) ∙ sym (add-zero (begin begins f))) ∙ sym (corner-at L l (omega arith))
-    go false e =
-        let s = eqb-false (p + 1) (sides begins f) e in
-        let z : begin begins f + p + 1 ≡ begin begins f + (p + 1) = omega arith in
-        ap (from corners) (next-up L (place-in L l h) (omega arith) ∙ z) ∙ sym (corner-at L l (omega arith))

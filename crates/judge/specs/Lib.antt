@@ -1,0 +1,3 @@
+-- The judge's answer, and what it means.
+pub mod Judge
+pub mod Stages
