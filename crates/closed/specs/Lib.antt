@@ -1,4 +1,5 @@
 -- Numbers 7 and 8.
+pub mod Lower
 pub mod Step
 pub mod Ring
 pub mod Turning
