@@ -4,3 +4,4 @@ pub mod Step
 pub mod Ring
 pub mod Turning
 pub mod Apart
+pub mod Cases
