@@ -39,9 +39,11 @@ fromRepeat points corners begins =
     (orElse 5 (unused (vertices points) corners)
     (fromPair points corners begins))
 
-unfoldable pub judged : List ℤ → List ℕ → List ℕ → Answer
-judged points corners begins =
-    cond (isSize points corners begins) (refused 1 0 0)
-    (orElse 2 (range points)
+abbrev pub fromRange : List ℤ → List ℕ → List ℕ → Answer
+fromRange points corners begins =
+    orElse 2 (range points)
     (orElse 3 (index (vertices points) corners begins)
-    (fromRepeat points corners begins)))
+    (fromRepeat points corners begins))
+
+unfoldable pub judged : List ℤ → List ℕ → List ℕ → Answer
+judged points corners begins = cond (isSize points corners begins) (refused 1 0 0) (fromRange points corners begins)

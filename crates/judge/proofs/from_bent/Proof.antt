@@ -20,8 +20,14 @@ returns-3 c =
     let x = c .before .before .before .before in
     let u = x .before .before .before in
     let b = u .before .before .before in
-    rw (← (b .bent .ensures), u .before .enum-told .given .1, ← (u .turn .ensures), x .before .enum-told2 .given .1
-    , ← (x .reflex .ensures), c .before .before .reflex2 .given .1) (c .refused3 .ensures)
+    rw (
+      ← (b .bent .ensures),
+      u .before .enum-told .given .1,
+      ← (u .turn .ensures),
+      x .before .enum-told2 .given .1,
+      ← (x .reflex .ensures),
+      c .before .before .reflex2 .given .1,
+    ) (c .refused3 .ensures)
 
 reflex-requires : tie.Need-reflex-requires
 reflex-requires c κs =
@@ -34,9 +40,11 @@ outside-requires c κs =
     let x = c .before .before in
     let u = x .before .before .before in
     let b = u .before .before .before in
-    let s = b .before .before .before in
-    (up-to-11 (s .pre .0) (sym (b .bent .ensures) ∙ u .before .enum-told .given .1) (sym (u .turn .ensures) ∙ x .before .enum-told2 .given .1)
-    (sym (x .reflex .ensures) ∙ c .enum-told3 .given .1), s .pre .1 .0 .leaving)
+    let s = b .before .before .before in (
+      up-to-11 (s .pre .0) (sym (b .bent .ensures) ∙ u .before .enum-told .given .1) (sym (u .turn .ensures) ∙ x .before .enum-told2 .given .1)
+          (sym (x .reflex .ensures) ∙ c .enum-told3 .given .1),
+      s .pre .1 .0 .leaving,
+    )
 
 returns-4 : tie.Need-returns-4
 returns-4 c =
@@ -44,8 +52,16 @@ returns-4 c =
     let x = o .before .before .before in
     let u = x .before .before .before in
     let b = u .before .before .before in
-    rw (← (b .bent .ensures), u .before .enum-told .given .1, ← (u .turn .ensures), x .before .enum-told2 .given .1
-    , ← (x .reflex .ensures), o .before .enum-told3 .given .1, ← (o .outside .ensures), c .before .before .outside2 .given .1) (c .refused4 .ensures)
+    rw (
+      ← (b .bent .ensures),
+      u .before .enum-told .given .1,
+      ← (u .turn .ensures),
+      x .before .enum-told2 .given .1,
+      ← (x .reflex .ensures),
+      o .before .enum-told3 .given .1,
+      ← (o .outside .ensures),
+      c .before .before .outside2 .given .1,
+    ) (c .refused4 .ensures)
 
 sub-accepted : tie.Need-sub-accepted
 sub-accepted c =
@@ -58,8 +74,16 @@ returns-5 c =
     let x = o .before .before .before in
     let u = x .before .before .before in
     let b = u .before .before .before in
-    rw (← (b .bent .ensures), u .before .enum-told .given .1, ← (u .turn .ensures), x .before .enum-told2 .given .1
-    , ← (x .reflex .ensures), o .before .enum-told3 .given .1, ← (o .outside .ensures), c .before .enum-told4 .given .1) (c .accepted .ensures)
+    rw (
+      ← (b .bent .ensures),
+      u .before .enum-told .given .1,
+      ← (u .turn .ensures),
+      x .before .enum-told2 .given .1,
+      ← (x .reflex .ensures),
+      o .before .enum-told3 .given .1,
+      ← (o .outside .ensures),
+      c .before .enum-told4 .given .1,
+    ) (c .accepted .ensures)
 
 pub from-bent-spec : {M : Type 1} → statement M
 from-bent-spec =
