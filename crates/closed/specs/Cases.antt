@@ -2,15 +2,19 @@
 use mathlib.Core.Path.{_≡_, refl}
 use mathlib.Core.List.{List, [], _∷_}
 use Prim.Native.Nat.{ℕ}
+use lib.IntN.{ℤ, pos}
 use Rattle.whole.specs.First.{firstBelow}
 use Rattle.whole.specs.Count.{countBelow, lastBelow}
 use Rattle.whole.specs.Orbit.{iterate}
 use Rattle.whole.specs.Rounds.{tab, rounds}
 use Rattle.tables.specs.Tables.{homeOf, nextOf}
+use Rattle.tables.specs.Size.{isSize}
+use Rattle.tables.specs.Places.{Sound, Single}
 use Rattle.tables.specs.declared.Found.{Found}
 use Rattle.tables.specs.declared.Found.the-variants.{At, Nothing}
-use Rattle.edges.specs.Pair.{pair}
+use Rattle.edges.specs.Pair.{pair, Paired, pair-none}
 use Rattle.edges.specs.Across.{acrossOf}
+use Rattle.closed.specs.Lower.{all-sound, repeat-single}
 use Rattle.closed.specs.Step.{stepOf}
 use Rattle.closed.specs.Ring.{ring}
 use Rattle.closed.specs.Apart.{flooded, apart}
@@ -21,13 +25,20 @@ pub record Finds (n : ℕ) (corners begins : List ℕ) (six seven eight : Found)
   pub in-ring : ring n corners begins ≡ seven
   pub in-apart : apart corners begins ≡ eight
 
+-- solid T
+abbrev corners : List ℕ
+corners = 0 ∷ 2 ∷ 1 ∷ 0 ∷ 1 ∷ 3 ∷ 0 ∷ 3 ∷ 2 ∷ 1 ∷ 2 ∷ 3 ∷ []
+
+abbrev points : List ℤ
+points = pos 0 ∷ pos 0 ∷ pos 0 ∷ pos 1 ∷ pos 0 ∷ pos 0 ∷ pos 0 ∷ pos 1 ∷ pos 0 ∷ pos 0 ∷ pos 0 ∷ pos 1 ∷ []
+
 abbrev four : List ℕ
 four = 0 ∷ 3 ∷ 6 ∷ 9 ∷ 12 ∷ []
 
 abbrev eight : List ℕ
 eight = 0 ∷ 3 ∷ 6 ∷ 9 ∷ 12 ∷ 15 ∷ 18 ∷ 21 ∷ 24 ∷ []
 
-case-A : Finds 4 (0 ∷ 2 ∷ 1 ∷ 0 ∷ 1 ∷ 3 ∷ 0 ∷ 3 ∷ 2 ∷ 1 ∷ 2 ∷ 3 ∷ []) four Nothing Nothing Nothing
+case-A : Finds 4 corners four Nothing Nothing Nothing
 unfolding firstBelow countBelow lastBelow iterate tab rounds homeOf nextOf acrossOf stepOf flooded
 case-A = record { in-pair = refl; in-ring = refl; in-apart = refl }
 
@@ -54,3 +65,16 @@ separate = record { in-pair = refl; in-ring = refl; in-apart = refl }
 ring-of-two : Finds 5 (0 ∷ 2 ∷ 1 ∷ 4 ∷ 0 ∷ 4 ∷ 1 ∷ 3 ∷ 0 ∷ 3 ∷ 2 ∷ 1 ∷ 2 ∷ 3 ∷ []) (0 ∷ 4 ∷ 8 ∷ 11 ∷ 14 ∷ []) Nothing Nothing Nothing
 unfolding firstBelow countBelow lastBelow iterate tab rounds homeOf nextOf acrossOf stepOf flooded
 ring-of-two = record { in-pair = refl; in-ring = refl; in-apart = refl }
+
+-- ---- the functions' `requires` can be met: T passes 1 to 6
+
+T-sound : Sound 4 corners four
+unfolding firstBelow isSize
+T-sound = all-sound points refl refl
+
+T-single : Single corners four
+unfolding firstBelow
+T-single = repeat-single (T-sound .laid) refl
+
+T-paired : Paired corners four
+T-paired = pair-none (T-sound .laid) (case-A .in-pair)
