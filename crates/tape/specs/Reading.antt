@@ -1,10 +1,12 @@
 -- The reading of bytes: record after record, up to the end or the first bad record; and the tables of a tape that is read.
+use mathlib.Core.Path.{_≡_, refl}
 use mathlib.Core.Bool.{cond}
 use mathlib.Core.List.{List, [], _∷_}
 use Prim.Native.Nat.{ℕ, zero, suc, _+_, _-_, _*_}
+use native.Mathlib.Omega.{arith}
 use lib.Dec.{ltb, leb, eqb}
 use lib.IntN.{ℤ}
-use lib.ListN.{length, getD}
+use lib.ListN.{length, getD, length-append}
 use Rattle.tables.specs.Tables.{mostVertices, mostFacets, mostCorners, mostSides}
 use Rattle.tape.specs.Little.{unsignedAt, signedAt}
 use Rattle.tape.specs.Joined.{joined, listed}
@@ -96,3 +98,8 @@ cornersAt s at n = joined (facetFrom s at) n
 
 abbrev pub beginsAt : List ℕ → ℕ → ℕ → List ℕ
 beginsAt s at n = listed (λ f. length (cornersAt s at f)) n
+
+pub length-points-at : (s : List ℕ) (at n : ℕ) → length (pointsAt s at n) ≡ n * 3
+unfolding joined
+length-points-at s at zero = refl
+length-points-at s at (suc n) = simp length-append (omega (arith, length-points-at s at n))

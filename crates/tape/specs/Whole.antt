@@ -214,7 +214,7 @@ module _ {s : List ℕ} {look : ℕ → ℕ → ℕ → ℕ → Next} (L : Looks
 
 -- ---- the reading of a tape
 
-looks : (s : List ℕ) → Looks s (lookAt s)
+pub looks : (s : List ℕ) → Looks s (lookAt s)
 looks s = record {
   point = λ at v f c e. tells s at v f c e;
   facet = λ at v f c n e. tells s at v f c e;
