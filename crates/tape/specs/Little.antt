@@ -96,3 +96,6 @@ read-32 h = toZ-ofZ {w = w32} (record { sfits = h })
 
 pub read-back : {x : ℤ} → SFits w16 x → toZ w32 (ofZ w32 x) ≡ x
 read-back h = toZ-ofZ (sfits-widen {w = w16} tt h)
+
+pub read-fits : {x : ℤ} → SFits w16 x → SFits w16 (toZ w32 (ofZ w32 x))
+read-fits h = rw (read-back h) h

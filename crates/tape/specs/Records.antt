@@ -11,6 +11,7 @@ use mir.Syntax.{w16}
 use mir.Val.{SFits}
 use Rattle.space.specs.Points.{vertices, coordOf}
 use Rattle.tables.specs.Tables.{mostVertices, mostFacets, mostCorners, leastSides, mostSides, facets, begin, end, sides, facetOf}
+use Rattle.tables.specs.Size.{Laid}
 use Rattle.tape.specs.Little.{bytesOf, bits, length-bytes}
 use Rattle.tape.specs.Joined.{joined}
 
@@ -85,6 +86,17 @@ pub record Parted (corners begins : List ℕ) : Type 0 where
   pub finish : begin begins (facets begins) ≡ length corners
   pub rise : (f : ℕ) → f < facets begins → begin begins f + leastSides ≤ end begins f
   pub narrow : (f : ℕ) → f < facets begins → end begins f ≤ begin begins f + mostSides
+
+pub parted : {corners begins : List ℕ} → Laid corners begins → Parted corners begins
+parted L = record {
+  some = omega (arith, L .some);
+  most = L .most;
+  short = L .short;
+  start = L .start;
+  finish = L .finish;
+  rise = λ f l. L .rise f (omega arith);
+  narrow = λ f l. L .narrow f (omega arith);
+}
 
 -- of RANGE, what they need: each coordinate has 16 bits
 pub record Placed (points : List ℤ) : Type 0 where

@@ -1,12 +1,13 @@
 -- `reader::store` meets its contract. Assumes nothing.
 use borrow.Author.Needs.{needs}
 use mathlib.Core.Path.{_≡_, refl}
+use mathlib.Core.List.{[], _∷_}
 use Prim.Native.Nat.{_-_, _≤_, _<_}
 use native.Mathlib.Omega.{arith}
 use native.Mathlib.Numerals.{add-one}
 use lib.ListN.{length, take, getD, length-set}
 use lib.Seq.{sets, take-suc, length-take-le}
-use Rattle.tape.specs.Over.{sets-more}
+use Rattle.tape.specs.Over.{sets-append}
 use Rattle.reader.proofs.store.Statement.{statement}
 use Rattle.reader.proofs.store.Tie as tie
 
@@ -23,7 +24,7 @@ loop-again c =
     let k = l .loop .k in
     let b : k < length (a .tray .now) = omega arith in
     let n : length (take k (a .tray .now)) ≡ k = length-take-le k (a .tray .now) (omega arith) in
-    let e = sets-more (take k (a .tray .now)) (a .corners .now) (a .c) (getD (a .tray .now) k 0) in
+    let e = sets-append (take k (a .tray .now)) (getD (a .tray .now) k 0 ∷ []) (a .corners .now) (a .c) in
     (search needs, simp length-set (l .loop .inv .1), rw (add-one, take-suc (a .tray .now) k 0 b, e, n, ← l .loop .inv .2))
 
 returns : tie.Need-returns Inv-loop μ-loop
