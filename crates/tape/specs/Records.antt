@@ -124,6 +124,9 @@ module _ {corners begins : List ℕ} (p : Parted corners begins) where
       simp (length-append, length-packed)
       (omega (arith, length-facets f (omega arith), length-facet f (omega arith), p .rise f (omega arith), ap (begin begins) (add-one f)))
 
+  pub length-all-facets : length (facetBytes corners begins (facets begins)) ≡ facets begins + 2 * length corners
+  length-all-facets = omega (arith, length-facets (facets begins) (omega (arith, p .some)), p .finish)
+
 pub length-points : (points : List ℤ) (n : ℕ) → length (pointBytes points n) ≡ 7 * n
 unfolding joined
 length-points points zero = refl
@@ -132,4 +135,4 @@ length-points points (suc n) = simp (length-append, length-packed) (omega (arith
 pub length-records : (points : List ℤ) {corners begins : List ℕ} → Parted corners begins
     → length (recordBytes points corners begins) ≡ 7 * vertices points + (facets begins + 2 * length corners)
 length-records points {corners} {begins} p =
-    simp length-append (omega (arith, length-points points (vertices points), length-facets p (facets begins) (omega (arith, p .some)), p .finish))
+    rw (length-append, length-points points (vertices points), length-all-facets p)

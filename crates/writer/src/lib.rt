@@ -122,7 +122,12 @@ fn put_tape(points: &[i32], corners: &[u16], begins: &[u16], buffer: &mut [u8])
 }
 
 // Writes the tape of tables over the beginning of a buffer.
-pub fn write_tape(points: &[i32], corners: &[u16], begins: &[u16], buffer: &mut [u8]) -> tables::Answer
+pub fn write_tape(
+    points: &[i32],
+    corners: &[u16],
+    begins: &[u16],
+    buffer: &mut [u8],
+) -> tables::Answer
     ensures { λ r. ⌜ r ≡ written (now (points .entry)) (now (corners .entry)) (now (begins .entry)) (now (buffer .entry)) ⌝ }
     ensures { λ _. ⌜ now (buffer .exit) ≡ bufferAfter (now (points .entry)) (now (corners .entry)) (now (begins .entry)) (now (buffer .entry)) ⌝ }
 {

@@ -1,88 +1,65 @@
+-- `writer::check` meets its contract. Assumes nothing.
 use borrow.Author.Needs.{needs}
+use mathlib.Core.Path.{_≡_, sym, _∙_}
+use mathlib.Core.Bool.{false}
+use Rattle.tables.specs.Size.{isSize, sized}
+use Rattle.tables.specs.Rules.{range}
+use Rattle.tables.specs.declared.Found.the-variants.{Nothing}
 use Rattle.writer.proofs.check.Statement.{statement}
 use Rattle.writer.proofs.check.Tie as tie
-use Rattle.writer.proofs.check.Reads as reads
-use Rattle.writer.proofs.check.Lts as lts
-use Rattle.tables.proofs.Answer.accepted.Reads as accepted-reads
-use Rattle.tables.proofs.Answer.refused.Reads as refused-reads
-use Rattle.tables.proofs.index.Reads as index-reads
-use Rattle.tables.proofs.range.Reads as range-reads
-use Rattle.tables.proofs.size.Reads as size-reads
 
--- src/lib.rt:96:8
-size-requires : tie.Need-size-requires
-size-requires c κs = search needs
+abbrev start : tie.After-size → tie.Start
+start c = c .before .before .before
 
--- src/lib.rt:97:9
-refused-requires : tie.Need-refused-requires
-refused-requires c κs = search needs
-
--- src/lib.rt:97:9
 returns : tie.Need-returns
-returns c = ?
+returns c = let z = c .before .before in c .refused .ensures ∙ rw (sym (z .size .ensures) ∙ c .before .if1 .taken)
 
--- src/lib.rt:99:11
-range-requires : tie.Need-range-requires
-range-requires c κs = search needs
+-- SIZE has passed, and RANGE
+no-size : (c : tie.Else1) → let a = start (c .before) .args in isSize (a .points .now) (a .corners .now) (a .begins .now) ≡ false
+no-size c = sym (c .before .size .ensures) ∙ c .if1 .left
 
--- src/lib.rt:100:27
-enum-known-first : tie.Need-enum-known-first
-enum-known-first c = search needs
-
--- src/lib.rt:100:45
-refused-requires-2 : tie.Need-refused-requires-2
-refused-requires-2 c κs = search needs
-
--- src/lib.rt:100:45
 returns-2 : tie.Need-returns-2
-returns-2 c = ?
+returns-2 c =
+    let g = c .before .before in
+    let r = g .before .before in
+    c .refused2 .ensures ∙ rw (no-size (r .before), sym (r .range .ensures) ∙ g .first .given .1)
 
-enum-told : tie.Need-enum-told
-enum-told c = search needs
+no-range : (c : tie.After-enum-told) → range (start (c .before .before .before .before) .args .points .now) ≡ Nothing
+no-range c = sym (c .before .before .range .ensures) ∙ c .enum-told .given .1
 
--- src/lib.rt:103:11
 index-requires : tie.Need-index-requires
-index-requires c κs = ?
+index-requires c κs =
+    let e = c .before .before .before in
+    let a = start (e .before) .args in
+    sized (a .points .now) (a .corners .now) (a .begins .now) (no-size e) .laid
 
--- src/lib.rt:104:27
-enum-known-first-2 : tie.Need-enum-known-first-2
-enum-known-first-2 c = search needs
-
--- src/lib.rt:104:45
-refused-requires-3 : tie.Need-refused-requires-3
-refused-requires-3 c κs = search needs
-
--- src/lib.rt:104:45
 returns-3 : tie.Need-returns-3
-returns-3 c = ?
+returns-3 c =
+    let g = c .before .before in
+    let i = g .before .before in
+    c .refused3 .ensures ∙ rw (no-size (i .before .before .before .before), no-range (i .before), sym (i .index .ensures) ∙ g .first2 .given .1)
 
-enum-told-2 : tie.Need-enum-told-2
-enum-told-2 c = search needs
-
--- src/lib.rt:107:5
-accepted-requires : tie.Need-accepted-requires
-accepted-requires c κs = search needs
-
--- src/lib.rt:93:1
 returns-4 : tie.Need-returns-4
-returns-4 c = ?
+returns-4 c =
+    let i = c .before .before .before in
+    c .accepted .ensures ∙ rw (no-size (i .before .before .before .before), no-range (i .before), sym (i .index .ensures) ∙ c .before .enum-told2 .given .1)
 
 pub check-spec : {M : Type 1} → statement M
 check-spec =
     tie.close
     (tie.spec
-    size-requires
-    refused-requires
+    (λ c κs. search needs)
+    (λ c κs. search needs)
     returns
-    range-requires
-    enum-known-first
-    refused-requires-2
+    (λ c κs. search needs)
+    (λ c. search needs)
+    (λ c κs. search needs)
     returns-2
-    enum-told
+    (λ c. search needs)
     index-requires
-    enum-known-first-2
-    refused-requires-3
+    (λ c. search needs)
+    (λ c κs. search needs)
     returns-3
-    enum-told-2
-    accepted-requires
+    (λ c. search needs)
+    (λ c κs. search needs)
     returns-4)
