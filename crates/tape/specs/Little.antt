@@ -12,7 +12,7 @@ use lib.Seq.{drop-cons, getD-append-add}
 use lib.Signed.{mag}
 use mir.Syntax.{w16, w32}
 use mir.Val.{Fits, SFits, ofZ, toZ}
-use mir.Facts.{toZ-ofZ, ofZ-toZ, sfits-toZ, sfits-widen}
+use mir.Facts.{toZ-ofZ, ofZ-toZ, fits-ofZ, sfits-toZ, sfits-widen}
 
 -- the k lowest bytes of a number
 unfoldable pub bytesOf : ℕ → ℕ → List ℕ
@@ -85,6 +85,10 @@ signed-bits h = toZ-ofZ h
 pub bits-signed : {n : ℕ} → Fits w16 n → bits (signed n) ≡ n
 unfolding signed bits
 bits-signed h = ofZ-toZ h
+
+pub bits-fit : {x : ℤ} → SFits w16 x → Fits w16 (bits x)
+unfolding bits
+bits-fit h = fits-ofZ h
 
 pub signed-fits : {n : ℕ} → Fits w16 n → SFits w16 (signed n)
 unfolding signed
