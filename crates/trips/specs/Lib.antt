@@ -2,3 +2,5 @@
 pub mod Taped
 pub mod ReadIsTape
 pub mod TapeIsRead
+pub mod Trips
+pub mod Cases

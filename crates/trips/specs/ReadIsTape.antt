@@ -20,7 +20,7 @@ use Rattle.tape.specs.Records.{point, facet, framed, packed, bytes, pointOf, po
 use Rattle.tape.specs.Tape.{ending, tape}
 use Rattle.tape.specs.Reading.{coordsAt, numbersAt, pointsAt, place, facetFrom, cornersAt, beginsAt, length-points-at}
 use Rattle.tape.specs.Whole.{Facets, Whole, place-0, place-more, place-rises, length-from, corners-more, facet-inside}
-use Rattle.trips.specs.Taped.{sixteen-one, sixteen-joined, Taped}
+use Rattle.trips.specs.Taped.{Sixteen, sixteen-one, sixteen-joined, Taped}
 
 -- pieces of a list that stand one after the other
 pub pieces : (s : List ℕ) (at size : ℕ → ℕ) (n : ℕ) → ((k : ℕ) → k < n → at (k + 1) ≡ at k + size k)
@@ -161,15 +161,18 @@ module _ {s : List ℕ} (b : Bytes s) {v f c : ℕ} (w : Whole s v f c) where
       h : Facets s (7 * v) f
       h = w .records .facets
 
+  sixteen-from : (k : ℕ) → Sixteen (facetFrom s (7 * v) k)
+  sixteen-from k =
+      let i = place s (7 * v) k + 1 in
+      sixteen-joined (λ j. unsignedAt s (i + 2 * j) ∷ []) (λ j. sixteen-one (number-fits b (i + 2 * j) .fits)) (getD s (place s (7 * v) k) 0)
+
   pub whole-taped : Taped s points corners begins
   whole-taped = record {
     holds = record {
       threes = rw (count-points) (length-points-at s 0 v);
       placed = placed;
       parted = parted;
-      numbers =
-          sixteen-joined (facetFrom s (7 * v))
-          (λ k. sixteen-joined (λ j. unsignedAt s (place s (7 * v) k + 1 + 2 * j) ∷ []) (λ j. sixteen-one (number-fits b (place s (7 * v) k + 1 + 2 * j) .fits)) (getD s (place s (7 * v) k) 0)) f;
+      numbers = λ k l. let m : k < f = rw count-facets at l in rw (facet-is k m) (sixteen-from k);
     };
     same = same;
   }

@@ -17,7 +17,7 @@ use Rattle.tape.specs.Tape.{ending, tape, length-tape}
 use Rattle.tape.specs.Reading.{coordsAt, numbersAt, pointsAt, place, cornersAt, beginsAt}
 use Rattle.tape.specs.Look.{IsEnd}
 use Rattle.tape.specs.Whole.{Whole}
-use Rattle.trips.specs.Taped.{Sixteen, sixteen-one, sixteen-append, sixteen-part, Holds}
+use Rattle.trips.specs.Taped.{Sixteen, sixteen-one, sixteen-append, Holds}
 use Rattle.trips.specs.ReadIsTape.{numbers-2, numbers-3}
 
 -- ---- a record that stands in a tape
@@ -119,7 +119,7 @@ module _ {points : List ℤ} {corners begins : List ℕ} (h : Holds points corne
   stands-facet f l =
       let r = joined-split (λ k. bytes (facet (facetOf corners begins k))) f (facets begins) l in
       stands-at (pointBytes points (vertices points) ++ facetBytes corners begins f) (length (facetOf corners begins f)) (facetOf corners begins f)
-      (r .0 ++ ending (vertices points) (facets begins)) (sixteen-part (sides begins f) (begin begins f) (h .numbers)) (rw (r .1) (simp append-assoc)) (length-before f (omega arith))
+      (r .0 ++ ending (vertices points) (facets begins)) (h .numbers f l) (rw (r .1) (simp append-assoc)) (length-before f (omega arith))
 
   -- the kind byte of facet f
   kind-is : (f : ℕ) → f < facets begins → getD s (offset f) 0 ≡ sides begins f

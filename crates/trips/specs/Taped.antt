@@ -1,12 +1,12 @@
 -- The bytes of the tape of tables whose numbers the layout can hold. Assumes nothing.
 use mathlib.Core.Path.{_≡_}
 use mathlib.Core.List.{List, [], _∷_, _++_}
-use Prim.Native.Nat.{ℕ, zero, suc, _+_, _*_, _<_}
+use Prim.Native.Nat.{ℕ, zero, suc, _*_, _<_}
 use lib.Dec.{lit<}
 use lib.IntN.{ℤ}
-use lib.ListN.{length, getD, take, drop}
-use lib.Seq.{getD-drop}
+use lib.ListN.{length, getD}
 use Rattle.space.specs.Points.{vertices}
+use Rattle.tables.specs.Tables.{facets, facetOf}
 use Rattle.tape.specs.Joined.{joined}
 use Rattle.tape.specs.Records.{Placed, Parted}
 use Rattle.tape.specs.Tape.{tape}
@@ -30,15 +30,6 @@ sixteen-one {n} h = record { small = go }
     go zero = h
     go (suc k) = lit< tt
 
-pub sixteen-part : (n a : ℕ) {ns : List ℕ} → Sixteen ns → Sixteen (take n (drop a ns))
-sixteen-part n a {ns} h = record { small = taken n (drop a ns) (λ k. rw getD-drop (h .small (a + k))) }
-  where
-    taken : (n : ℕ) (l : List ℕ) → ((k : ℕ) → getD l k 0 < 65536) → (k : ℕ) → getD (take n l) k 0 < 65536
-    taken zero l g k = lit< tt
-    taken (suc n) [] g k = lit< tt
-    taken (suc n) (x ∷ l) g zero = g 0
-    taken (suc n) (x ∷ l) g (suc k) = taken n l (λ j. g (suc j)) k
-
 pub sixteen-joined : (f : ℕ → List ℕ) → ((k : ℕ) → Sixteen (f k)) → (n : ℕ) → Sixteen (joined f n)
 unfolding joined
 sixteen-joined f h zero = record { small = λ k. lit< tt }
@@ -49,7 +40,7 @@ pub record Holds (points : List ℤ) (corners begins : List ℕ) : Type 0 where
   pub threes : length points ≡ vertices points * 3
   pub placed : Placed points
   pub parted : Parted corners begins
-  pub numbers : Sixteen corners
+  pub numbers : (f : ℕ) → f < facets begins → Sixteen (facetOf corners begins f)
 
 pub record Taped (s : List ℕ) (points : List ℤ) (corners begins : List ℕ) : Type 0 where
   pub holds : Holds points corners begins
