@@ -1,0 +1,7 @@
+-- The definitions that the contracts cite.
+pub mod Runs
+pub mod Number
+pub mod Shown
+pub mod Words
+pub mod Scan
+pub mod Line
