@@ -1,4 +1,5 @@
 -- The definitions that the contracts cite.
+pub mod Stores
 pub mod Runs
 pub mod Number
 pub mod Shown

@@ -1,6 +1,6 @@
 -- "A number, here and in any text, is an optional minus sign and one or more digits." Assumes nothing.
 use mathlib.Core.Path.{_≡_, refl, sym, _∙_, ap}
-use mathlib.Core.Bool.{Bool, true, false, cond, _&&_}
+use mathlib.Core.Bool.{Bool, true, false, cond, _&&_, false≢true}
 use mathlib.Core.List.{List, [], _∷_, _++_}
 use Prim.Native.Nat.{ℕ, zero, suc, _+_, _-_, _*_, _≤_, _<_, min}
 use native.Mathlib.Omega.{arith}
@@ -60,33 +60,63 @@ clamp (negsuc n) = negℤ (pos (min (suc n) most))
 abbrev pub readOf : List ℕ → Read
 readOf word = cond (isNumber word) (Number (clamp (value word))) Malformed
 
+-- ---- how it is read
+
 -- what is kept of digits of the value n, with the digit b more
 abbrev pub kept : ℕ → ℕ → ℕ
 kept n b = min (n * 10 + (b - 48)) most
 
-pub clamp-signed : (t : Bool) (n : ℕ) → clamp (signed t n) ≡ signed t (min n most)
-clamp-signed true zero = refl
-clamp-signed true (suc n) = refl
-clamp-signed false n = refl
+-- no digit makes the value less, so that what is kept after each digit is what is kept of the whole
+decimal-le : (n : ℕ) (s : List ℕ) → n ≤ decimal n s
+unfolding decimal
+decimal-le n [] = omega arith
+decimal-le n (b ∷ s) = omega (arith, decimal-le (n * 10 + (b - 48)) s)
+
+pub kept-decimal : (n : ℕ) (s : List ℕ) → min (decimal (min n most) s) most ≡ min (decimal n s) most
+kept-decimal n s = elim (decLe n most) [
+  | yes l ↦ let e : min n most ≡ n = omega arith in rw e
+  | no l ↦ let e : min n most ≡ most = omega arith in rw e (omega (arith, decimal-le most s, decimal-le n s))
+]
+
+-- the sign first, then the digits
+abbrev pub readDigits : Bool → List ℕ → Read
+readDigits minus s = cond (areDigits s) (Number (signed minus (min (decimal 0 s) most))) Malformed
+
+clamp-minus : (n : ℕ) → clamp (negℤ (pos n)) ≡ negℤ (pos (min n most))
+clamp-minus zero = refl
+clamp-minus (suc n) = refl
+
+pub minus-some : (word : List ℕ) → hasMinus word ≡ true → 1 ≤ length word
+minus-some [] e = absurd (false≢true e)
+minus-some (b ∷ s) e = omega arith
+
+pub read-minus : (word : List ℕ) → hasMinus word ≡ true → readDigits true (drop 1 word) ≡ readOf word
+read-minus [] e = absurd (false≢true e)
+read-minus (b ∷ s) e = rw (e, clamp-minus (decimal 0 s))
+
+pub read-plain : (word : List ℕ) → hasMinus word ≡ false → readDigits false word ≡ readOf word
+read-plain [] e = refl
+read-plain (b ∷ s) e = rw e
+
+-- ---- what the clamp leaves
 
 min-is : (n : ℕ) → n ≤ most → min n most ≡ n
 min-is n h = omega arith
-
-min-most : (n : ℕ) → most ≤ n → min n most ≡ most
-min-most n h = omega arith
 
 -- a value within the clamp is kept
 pub clamp-is : {z : ℤ} → z within most → clamp z ≡ z
 clamp-is {z = pos n} h = ap pos (min-is n (h .abs))
 clamp-is {z = negsuc n} h = ap (λ k. negℤ (pos k)) (min-is (suc n) (h .abs))
 
--- a limit below the clamp holds of what is kept exactly where it holds of the value, and then the value is kept
+-- a limit below the clamp holds of what is kept exactly where it holds of the value, which is then kept
 abs-clamp : (z : ℤ) → natAbs (clamp z) ≡ min (natAbs z) most
 abs-clamp (pos n) = refl
 abs-clamp (negsuc n) = abs-neg (pos (min (suc n) most))
 
-pub clamp-within : {z : ℤ} {N : ℕ} → N < most → z within N → clamp z within N
-clamp-within {z} l h = record { abs = omega (arith, abs-clamp z) }
+pub clamp-within : (z : ℤ) (N : ℕ) → N < most → z within N → clamp z within N
+clamp-within z N l h = record { abs = omega (arith, abs-clamp z) }
 
-pub within-clamp : {z : ℤ} {N : ℕ} → N < most → clamp z within N → z within N
-within-clamp {z} l h = record { abs = omega (arith, abs-clamp z) }
+pub within-clamp : (z : ℤ) (N : ℕ) → N < most → clamp z within N → (z within N) × (clamp z ≡ z)
+within-clamp z N l h = (record { abs = omega (arith, abs-clamp z) }, clamp-is (record { abs = omega (arith, abs-clamp z) }))
+
+-- so a comparison with such a limit has one answer for both

@@ -1,10 +1,13 @@
 -- Bytes of one sort: which are in a set, whether each passes a test, and how far a run of them goes. Assumes nothing.
 use mathlib.Core.Path.{_≡_, refl, sym, _∙_, ap}
-use mathlib.Core.Bool.{Bool, true, false, cond, not, _&&_, _||_, and-assoc, false≢true}
+use mathlib.Core.Bool.{Bool, true, false, cond, not, Bool·beq, _&&_, _||_, and-assoc, false≢true}
 use mathlib.Core.List.{List, [], _∷_, _++_}
-use Prim.Native.Nat.{ℕ, suc, _≤_, zero-le, suc-le-suc}
+use Prim.Native.Nat.{ℕ, zero, suc, _+_, _≤_, _<_, zero-le, suc-le-suc}
 use lib.Dec.{eqb}
-use lib.ListN.{length, take, drop}
+use native.Mathlib.Nat.{le-of-suc-le-suc, not-suc-le-zero}
+use native.Mathlib.Numerals.{add-one}
+use lib.ListN.{length, getD, take, drop, drop-of-length-le}
+use lib.Seq.{drop-cons}
 
 -- b is one of the bytes of a set
 unfoldable pub among : List ℕ → ℕ → Bool
@@ -12,9 +15,25 @@ among [] b = false
 among (a ∷ set) b = eqb a b || among set b
 
 -- a test, or its contrary
+abbrev pub agrees : Bool → Bool → Bool
+agrees true t = t
+agrees false t = not t
+
 abbrev pub sort : Bool → (ℕ → Bool) → ℕ → Bool
-sort true p b = p b
-sort false p b = not (p b)
+sort inside p b = agrees inside (p b)
+
+-- as the machine tells
+pub unlike : (inside t : Bool) → not (Bool·beq t inside) ≡ true → agrees inside t ≡ false
+unlike true true e = sym e
+unlike true false e = refl
+unlike false true e = refl
+unlike false false e = sym e
+
+pub alike : (inside t : Bool) → not (Bool·beq t inside) ≡ false → agrees inside t ≡ true
+alike true true e = refl
+alike true false e = sym e
+alike false true e = sym e
+alike false false e = refl
 
 -- each byte passes a test
 unfoldable pub each : (ℕ → Bool) → List ℕ → Bool
@@ -31,6 +50,13 @@ abbrev pub begins : (ℕ → Bool) → List ℕ → Bool
 begins p [] = false
 begins p (b ∷ s) = p b
 
+-- a loop over i has `drop i` before it
+pub drop-next : {A : Type 0} (s : List A) (i : ℕ) (d : A) → i < length s → drop i s ≡ getD s i d ∷ drop (i + 1) s
+drop-next s i d h = rw add-one (drop-cons s i d h)
+
+pub drop-end : {A : Type 0} (s : List A) (i : ℕ) → length s ≤ i → drop i s ≡ []
+drop-end s i h = drop-of-length-le s h
+
 pub both : (x y : Bool) → (x && y) ≡ true → (x ≡ true) × (y ≡ true)
 both true y e = (refl, e)
 both false y e = absurd (false≢true e)
@@ -38,6 +64,11 @@ both false y e = absurd (false≢true e)
 pub each-cons : (p : ℕ → Bool) (b : ℕ) (s : List ℕ) → each p (b ∷ s) ≡ true → (p b ≡ true) × (each p s ≡ true)
 unfolding each
 each-cons p b s = both (p b) (each p s)
+
+pub each-at : (p : ℕ → Bool) (s : List ℕ) (i : ℕ) → each p s ≡ true → i < length s → p (getD s i 0) ≡ true
+each-at p [] i h l = absurd (not-suc-le-zero l)
+each-at p (b ∷ s) zero h l = each-cons p b s h .0
+each-at p (b ∷ s) (suc i) h l = each-at p s i (each-cons p b s h .1) (le-of-suc-le-suc l)
 
 pub each-append : (p : ℕ → Bool) (s t : List ℕ) → each p (s ++ t) ≡ (each p s && each p t)
 unfolding each

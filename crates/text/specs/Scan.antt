@@ -1,6 +1,6 @@
 -- Where the words of a text stand: what a scanner finds that passes over blanks and then over the bytes of a word. Assumes nothing.
 use mathlib.Core.Path.{_≡_, refl, sym, _∙_, ap}
-use mathlib.Core.Bool.{Bool, false}
+use mathlib.Core.Bool.{Bool, true, false}
 use mathlib.Core.List.{List, [], _∷_}
 use Prim.Native.Nat.{ℕ, zero, suc, _+_, _-_, _≤_, _<_}
 use native.Mathlib.Decide.{decLt}
@@ -9,7 +9,7 @@ use native.Mathlib.Numerals.{add-one}
 use native.Mathlib.Omega.{arith}
 use lib.ListN.{length, getD, take, drop, length-drop, List·getD-eq-default}
 use lib.Seq.{drop-drop, getD-drop, take-nil}
-use Rattle.text.specs.Runs.{sort, run, run-le}
+use Rattle.text.specs.Runs.{sort, run, run-le, drop-next, drop-end}
 use Rattle.text.specs.Words.{words, wordOf, some-word, passed, some-word, no-word}
 use Rattle.text.specs.declared.Part.{Part}
 
@@ -29,6 +29,20 @@ nthOf blank s (suc k) = nextOf blank s (nthOf blank s k .end)
 -- the part of a text that a place names
 abbrev pub partOf : List ℕ → Part → List ℕ
 partOf s w = take (w .end - w .start) (drop (w .start) s)
+
+-- a loop over i stops there, goes on, or has come to the end
+module _ (p : ℕ → Bool) (s : List ℕ) (i : ℕ) where
+  pub past-stop : i < length s → p (getD s i 0) ≡ false → pastOf p s i ≡ i
+  unfolding run
+  past-stop l e = rw (drop-next s i 0 l, e) (add-zero i)
+
+  pub past-more : i < length s → p (getD s i 0) ≡ true → pastOf p s i ≡ pastOf p s (i + 1)
+  unfolding run
+  past-more l e = rw (drop-next s i 0 l, e) (omega arith)
+
+  pub past-end : length s ≤ i → pastOf p s i ≡ i
+  unfolding run
+  past-end l = rw (drop-end s i l) (add-zero i)
 
 module _ (blank : ℕ → Bool) (s : List ℕ) where
   past-le : (p : ℕ → Bool) (at : ℕ) → at ≤ length s → pastOf p s at ≤ length s

@@ -1,15 +1,16 @@
 -- The decimal text of a whole number. Assumes nothing.
 use mathlib.Core.Path.{_≡_, refl, sym, _∙_, ap}
-use mathlib.Core.Bool.{Bool, true, false, cond, _&&_}
+use mathlib.Core.Bool.{Bool, true, false, cond, true≢false}
 use mathlib.Core.List.{List, [], _∷_, _++_}
 use Prim.Native.Nat.{ℕ, zero, suc, _+_, _-_, _*_, _/_, _%_, _^_, _≤_, _<_}
 use native.Mathlib.Nat.{div-add-mod', pow-suc, div-lt-iff-lt-mul}
 use native.Mathlib.Decide.{decLt}
 use native.Mathlib.Omega.{arith}
 use lib.Dec.{leb, ltb, lit<}
-use lib.IntN.{ℤ, pos, negsuc}
+use lib.IntN.{ℤ, pos, negsuc, natAbs}
+use lib.Signed.{ltZ}
 use lib.ListN.{length, length-append, getD, List·getD-append}
-use borrow.Author.Tests.{lt-ltb, le-ltb, le-leb, leb-true, ne-eqb}
+use borrow.Author.Tests.{lt-ltb, le-ltb, le-leb, leb-true, ltb-true, ne-eqb}
 use mir.Syntax.{w64}
 use mir.Val.{SFits}
 use Rattle.text.specs.Runs.{each, both, each-cons, each-append}
@@ -51,6 +52,20 @@ unfolding digits spelled
 digits-are zero h = absurd (omega arith)
 digits-are (suc n) h =
     rw (le-ltb (suc n) 10 h, bounded n (suc n / 10) (suc n / 10) (omega arith) (omega arith))
+
+pub length-digit : (n : ℕ) → n < 10 → length (digits n) ≡ 1
+length-digit n h = ap length (digit-is n h)
+
+pub length-digits : (n : ℕ) → 10 ≤ n → length (digits n) ≡ length (digits (n / 10)) + 1
+length-digits n h = rw (digits-are n h, length-append)
+
+pub shown-below : (z : ℤ) → ltZ z (pos 0) ≡ true → shown z ≡ 45 ∷ digits (natAbs z)
+shown-below (pos n) h = absurd (omega (arith, ltb-true n 0 h))
+shown-below (negsuc n) h = refl
+
+pub shown-above : (z : ℤ) → ltZ z (pos 0) ≡ false → shown z ≡ digits (natAbs z)
+shown-above (pos n) h = refl
+shown-above (negsuc n) h = absurd (true≢false h)
 
 -- what holds of each digit, and of a number where it holds of its tenth, holds of each number
 pub by-digits : (P : ℕ → Type 0) → ((n : ℕ) → n < 10 → P n) → ((n : ℕ) → 10 ≤ n → P (n / 10) → P n) → (n : ℕ) → P n

@@ -8,7 +8,7 @@ ghost use lib.Seq.{sets};
 ghost use Rattle.text.specs.Runs.{among, sort, each};
 ghost use Rattle.text.specs.Words.{wordOf};
 ghost use Rattle.text.specs.Scan.{pastOf, nextOf, nthOf};
-ghost use Rattle.text.specs.Number.{isDigit, areDigits, decimal, most, kept, readOf};
+ghost use Rattle.text.specs.Number.{isDigit, areDigits, hasMinus, decimal, most, kept, readDigits, readOf};
 ghost use Rattle.text.specs.Shown.{digit, digits, shown};
 ghost use Rattle.text.specs.Line.{after, lineOf, lineIn};
 
@@ -143,28 +143,42 @@ fn size(s: &[u8]) -> u64
     n
 }
 
+// Digits read as a number with a minus sign before them, or with none.
+fn read_digits(minus: bool, s: &[u8]) -> Read
+    ensures { λ r. ⌜ r ≡ readDigits minus (now (s .entry)) ⌝ }
+{
+    if !are_digits(s) {
+        return Read::Malformed;
+    }
+    let n = size(s) as i64;
+    if minus {
+        return Read::Number(-n);
+    }
+    Read::Number(n)
+}
+
+// Whether a word begins with a minus sign.
+fn has_minus(word: &[u8]) -> bool
+    ensures { λ r. ⌜ r ≡ hasMinus (now (word .entry)) ⌝ }
+{
+    if word.len() == 0 {
+        return false;
+    }
+    word[0] == 45
+}
+
 // A word read as a number.
 pub fn number(word: &[u8]) -> Read
     ensures { λ r. ⌜ r ≡ readOf (now (word .entry)) ⌝ }
 {
-    if word.len() == 0 {
-        return Read::Malformed;
+    if has_minus(word) {
+        return read_digits(true, &word[1..]);
     }
-    if word[0] == 45 {
-        let rest = &word[1..];
-        if are_digits(rest) {
-            return Read::Number(-(size(rest) as i64));
-        }
-        return Read::Malformed;
-    }
-    if are_digits(word) {
-        return Read::Number(size(word) as i64);
-    }
-    Read::Malformed
+    read_digits(false, word)
 }
 
 // A number without its sign: that of the least number fits too.
-fn unsigned(z: i64) -> u64
+fn magnitude(z: i64) -> u64
     ensures { λ r. ⌜ r ≡ natAbs z ⌝ }
 {
     if z < 0 {
@@ -202,9 +216,9 @@ pub fn put_number(buf: &mut [u8], at: usize, z: i64) -> usize
 {
     if z < 0 {
         buf[at] = 45;
-        return put_digits(buf, at + 1, unsigned(z));
+        return put_digits(buf, at + 1, magnitude(z));
     }
-    put_digits(buf, at, unsigned(z))
+    put_digits(buf, at, magnitude(z))
 }
 
 // What stands after a number that so many others follow.
@@ -234,18 +248,15 @@ pub fn put_line(buf: &mut [u8], at: usize, numbers: &[i64]) -> usize
     end
 }
 
-// The longest line: seven numbers of at most 20 bytes, each with a byte after it.
-pub const ROOM: usize = 147;
-
-// A line: its bytes are the first `len`, and the others are 0.
+// A line: its bytes are the first `len`, and the others are 0. It has room for seven numbers of 20 bytes, each with a byte after it.
 pub struct Line {
     pub bytes: [u8; 147],
     pub len: usize,
 }
 
-// A line of up to seven numbers.
+// A line of numbers that has room.
 pub fn line_of(numbers: &[i64]) -> Line
-    requires { ⌜ length (now numbers) ≤ 7 ⌝ }
+    requires { ⌜ length (lineOf (now numbers)) ≤ 147 ⌝ }
     ensures { λ r. ⌜ r ≡ lineIn (now (numbers .entry)) ⌝ }
 {
     let mut bytes = [0u8; 147];

@@ -1,6 +1,14 @@
-use Prim.Native.Nat.{ℕ, _<_}
+-- `text::put_digits` meets its contract. The measure is n: its tenth is less. Assumes nothing.
+use borrow.Author.Needs.{needs}
+use mathlib.Core.Path.{_≡_, refl, sym, _∙_}
+use mathlib.Core.List.{[], _∷_}
+use Prim.Native.Nat.{ℕ, _+_, _/_, _%_, _≤_, _<_}
+use native.Mathlib.Omega.{arith}
+use lib.ListN.{length, length-set}
 use borrow.Fn.Kinds.{In}
 use borrow.Fn.PlainCycle.{Measures, is, falls, and}
+use Rattle.text.specs.Stores.{sets-append}
+use Rattle.text.specs.Shown.{digit, digits, digit-is, digits-are, length-digit, length-digits}
 use Rattle.text.proofs.put_digits.Reads as put-digits
 use Rattle.text.proofs.put_digits.Kinds as put-digits-kinds
 use Rattle.text.proofs.+put_digits.Lts-put_digits as put-digits-lts
@@ -9,132 +17,34 @@ use Rattle.text.proofs.+put_digits.{statement}
 use Rattle.text.proofs.+put_digits.Tie.{close}
 
 abbrev μ-put-digits : Measures 1 put-digits-kinds.ps ℕ
-μ-put-digits κs a = ?
+μ-put-digits κs a = a .1 .1 .0
 
 abbrev put-digits-at : ℕ → In 1 put-digits-kinds.ps
-put-digits-at t =
-    and 1 put-digits-kinds.ps (is 1 put-digits-kinds.ps μ-put-digits t) put-digits.Pre
+put-digits-at t = and 1 put-digits-kinds.ps (is 1 put-digits-kinds.ps μ-put-digits t) put-digits.Pre
 
 abbrev put-digits-below : ℕ → In 1 put-digits-kinds.ps
-put-digits-below t =
-    and 1 put-digits-kinds.ps (falls 1 put-digits-kinds.ps _<_ μ-put-digits t) put-digits.Pre
-
--- src/lib.rt:190:19
-put-digits-digit-requires : (t : ℕ) → put-digits-lts.Need-digit-requires (
-  digit-reads.Asked,
-  digit-reads.Learnt,
-  put-digits-below t,
-  put-digits.Post,
-) (put-digits-at t) put-digits.Post
-put-digits-digit-requires t c κs = ?
-
--- src/lib.rt:190:9
-put-digits-slice-write-buf : (t : ℕ) → put-digits-lts.Need-slice-write-buf (
-  digit-reads.Asked,
-  digit-reads.Learnt,
-  put-digits-below t,
-  put-digits.Post,
-) (put-digits-at t) put-digits.Post
-put-digits-slice-write-buf t c = ?
-
--- src/lib.rt:191:16
-put-digits-add-result : (t : ℕ) → put-digits-lts.Need-add-result (
-  digit-reads.Asked,
-  digit-reads.Learnt,
-  put-digits-below t,
-  put-digits.Post,
-) (put-digits-at t) put-digits.Post
-put-digits-add-result t c = ?
-
--- src/lib.rt:191:9
-put-digits-same-length : (t : ℕ) → put-digits-lts.Need-same-length (
-  digit-reads.Asked,
-  digit-reads.Learnt,
-  put-digits-below t,
-  put-digits.Post,
-) (put-digits-at t) put-digits.Post
-put-digits-same-length t c = ?
-
--- src/lib.rt:191:9
-put-digits-returns : (t : ℕ) → put-digits-lts.Need-returns (
-  digit-reads.Asked,
-  digit-reads.Learnt,
-  put-digits-below t,
-  put-digits.Post,
-) (put-digits-at t) put-digits.Post
-put-digits-returns t c = ?
-
--- src/lib.rt:193:9
-put-digits-put-digits-requires : (t : ℕ) → put-digits-lts.Need-put-digits-requires (
-  digit-reads.Asked,
-  digit-reads.Learnt,
-  put-digits-below t,
-  put-digits.Post,
-) (put-digits-at t) put-digits.Post
-put-digits-put-digits-requires t c κs = ?
-
--- src/lib.rt:194:16
-put-digits-digit-requires-2 : (t : ℕ) → put-digits-lts.Need-digit-requires-2 (
-  digit-reads.Asked,
-  digit-reads.Learnt,
-  put-digits-below t,
-  put-digits.Post,
-) (put-digits-at t) put-digits.Post
-put-digits-digit-requires-2 t c κs = ?
-
--- src/lib.rt:194:5
-put-digits-slice-write-buf-2 : (t : ℕ) → put-digits-lts.Need-slice-write-buf-2 (
-  digit-reads.Asked,
-  digit-reads.Learnt,
-  put-digits-below t,
-  put-digits.Post,
-) (put-digits-at t) put-digits.Post
-put-digits-slice-write-buf-2 t c = ?
-
--- src/lib.rt:195:5
-put-digits-add-result-2 : (t : ℕ) → put-digits-lts.Need-add-result-2 (
-  digit-reads.Asked,
-  digit-reads.Learnt,
-  put-digits-below t,
-  put-digits.Post,
-) (put-digits-at t) put-digits.Post
-put-digits-add-result-2 t c = ?
-
--- src/lib.rt:185:1
-put-digits-same-length-2 : (t : ℕ) → put-digits-lts.Need-same-length-2 (
-  digit-reads.Asked,
-  digit-reads.Learnt,
-  put-digits-below t,
-  put-digits.Post,
-) (put-digits-at t) put-digits.Post
-put-digits-same-length-2 t c = ?
-
--- src/lib.rt:185:1
-put-digits-returns-2 : (t : ℕ) → put-digits-lts.Need-returns-2 (
-  digit-reads.Asked,
-  digit-reads.Learnt,
-  put-digits-below t,
-  put-digits.Post,
-) (put-digits-at t) put-digits.Post
-put-digits-returns-2 t c = ?
+put-digits-below t = and 1 put-digits-kinds.ps (falls 1 put-digits-kinds.ps _<_ μ-put-digits t) put-digits.Pre
 
 pub +put-digits-spec : {M : Type 1} → statement M
-+put-digits-spec = close μ-put-digits λ t. put-digits-lts.spec (
-  digit-reads.Asked,
-  digit-reads.Learnt,
-  put-digits-below t,
-  put-digits.Post,
-)
++put-digits-spec = close μ-put-digits λ t. put-digits-lts.spec (digit-reads.Asked, digit-reads.Learnt, put-digits-below t, put-digits.Post)
     (put-digits-at t)
     put-digits.Post
-    (put-digits-digit-requires t)
-    (put-digits-slice-write-buf t)
-    (put-digits-add-result t)
-    (put-digits-same-length t)
-    (put-digits-returns t)
-    (put-digits-put-digits-requires t)
-    (put-digits-digit-requires-2 t)
-    (put-digits-slice-write-buf-2 t)
-    (put-digits-add-result-2 t)
-    (put-digits-same-length-2 t)
-    (put-digits-returns-2 t)
+    (λ c κs. search needs)
+    (λ c. omega (arith, length-digit (c .before .before .before .args .n) (search needs)))
+    (λ c. omega (arith, length-digit (c .before .before .before .args .n) (search needs)))
+    (λ c. search needs)
+    (λ c. (omega (arith, length-digit (c .before .before .before .args .n) (search needs)), rw (digit-is (c .before .before .before .args .n) (search needs), c .digit .ensures)))
+    (λ c κs. (omega arith, omega (arith, length-digits (c .before .before .before .args .n) (search needs))))
+    (λ c κs. search needs)
+    (λ c.
+    let p = c .before .before .before .put-digits in
+    omega (arith, p .ensures .0, p .kept .0, length-digits (c .before .before .before .before .before .before .before .args .n) (search needs)))
+    (λ c.
+    let p = c .before .before .before .put-digits in
+    omega (arith, p .ensures .0, p .kept .0, length-digits (c .before .before .before .before .before .before .before .args .n) (search needs)))
+    (λ c. simp length-set (c .before .before .before .put-digits .kept .0))
+    (λ c.
+    let p = c .before .before .before .put-digits in
+    let a = c .before .before .before .before .before .before .before .args in
+    let l : 10 ≤ a .n = search needs in
+    (omega (arith, p .ensures .0, length-digits (a .n) l), rw (digits-are (a .n) l, sets-append (digits (a .n / 10)) (digit (a .n % 10) ∷ []) (a .buf .now) (a .at), p .ensures .1, p .ensures .0, c .digit2 .ensures)))

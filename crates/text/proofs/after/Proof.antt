@@ -1,16 +1,14 @@
+-- `text::after` meets its contract. Assumes nothing.
 use borrow.Author.Needs.{needs}
+use mathlib.Core.Path.{_≡_, refl}
+use Prim.Native.Nat.{ℕ, zero, suc}
+use Rattle.text.specs.Line.{after}
 use Rattle.text.proofs.after.Statement.{statement}
 use Rattle.text.proofs.after.Tie as tie
-use Rattle.text.proofs.after.Reads as reads
-use Rattle.text.proofs.after.Lts as lts
 
--- src/lib.rt:215:9
-returns : tie.Need-returns
-returns c = search needs
-
--- src/lib.rt:211:1
-returns-2 : tie.Need-returns-2
-returns-2 c = ?
+blank : (n : ℕ) → (n ≡ 0 → ⊥) → 32 ≡ after n
+blank zero h = absurd (h refl)
+blank (suc n) h = refl
 
 pub after-spec : {M : Type 1} → statement M
-after-spec = tie.close (tie.spec returns returns-2)
+after-spec = tie.close (tie.spec (λ c. search needs) (λ c. blank _ (c .if1 .left)))

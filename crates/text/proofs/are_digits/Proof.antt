@@ -1,50 +1,43 @@
+-- `text::are_digits` meets its contract. The loop's invariant: all are digits where those that are left are. Assumes nothing.
+use borrow.Author.Needs.{needs}
+use borrow.Author.Tests.{le-leb, lt-leb, not-true, not-false}
+use native.Mathlib.Omega.{arith}
+use mathlib.Core.Path.{_≡_, refl, sym, _∙_}
+use mathlib.Core.Bool.{true, false, and-false}
+use Prim.Native.Nat.{_-_, _≤_}
+use lib.ListN.{length, getD, drop}
+use Rattle.text.specs.Runs.{each, drop-next, drop-end}
+use Rattle.text.specs.Number.{isDigit}
 use Rattle.text.proofs.are_digits.Statement.{statement}
 use Rattle.text.proofs.are_digits.Tie as tie
-use Rattle.text.proofs.are_digits.Reads as reads
-use Rattle.text.proofs.are_digits.Lts as lts
-use Rattle.text.proofs.is_digit.Reads as is-digit-reads
 
 abbrev Inv-loop : tie.InvT-loop
-Inv-loop s i₀ i = ?
+Inv-loop s i₀ i = (i ≤ length s) × (each isDigit s ≡ each isDigit (drop i s))
 
 abbrev μ-loop : tie.MeasureT-loop
-μ-loop s i₀ i = ?
+μ-loop s i₀ i = length s - i
 
--- src/lib.rt:105:9
-returns : tie.Need-returns Inv-loop μ-loop
-returns c = ?
-
--- src/lib.rt:108:5
-loop-holds : tie.Need-loop-holds Inv-loop μ-loop
-loop-holds c = ?
-
--- src/lib.rt:109:22
-shared-slice-read-is-digit : tie.Need-shared-slice-read-is-digit Inv-loop μ-loop
-shared-slice-read-is-digit c = ?
-
--- src/lib.rt:109:13
-is-digit-requires : tie.Need-is-digit-requires Inv-loop μ-loop
-is-digit-requires c κs = ?
-
--- src/lib.rt:110:13
 returns-2 : tie.Need-returns-2 Inv-loop μ-loop
-returns-2 c = ?
+unfolding each
+returns-2 c =
+    let l = c .before .before .before .before in
+    let s = l .before .before .before .args .s .now in
+    let b : isDigit (getD s (l .loop .i) 0) ≡ false = sym (c .before .is-digit .ensures) ∙ not-true _ (c .if2 .taken) in
+    rw (l .loop .inv .1, drop-next s (l .loop .i) 0 (search needs), b, and-false)
 
--- src/lib.rt:112:9
-add-i : tie.Need-add-i Inv-loop μ-loop
-add-i c = ?
-
--- src/lib.rt:108:5
-loop-less : tie.Need-loop-less Inv-loop μ-loop
-loop-less c = ?
-
--- src/lib.rt:108:5
 loop-again : tie.Need-loop-again Inv-loop μ-loop
-loop-again c = ?
+unfolding each
+loop-again c =
+    let l = c .before .before .before .before in
+    let s = l .before .before .before .args .s .now in
+    let b : isDigit (getD s (l .loop .i) 0) ≡ true = sym (c .before .is-digit .ensures) ∙ not-false _ (c .if2 .left) in
+    (search needs, rw (l .loop .inv .1, drop-next s (l .loop .i) 0 (search needs), b))
 
--- src/lib.rt:101:1
 returns-3 : tie.Need-returns-3 Inv-loop μ-loop
-returns-3 c = ?
+unfolding each
+returns-3 c =
+    let s = c .before .before .before .before .args .s .now in
+    rw (le-leb 1 (length s) (omega arith), c .before .loop .inv .1, drop-end s (c .before .loop .i) (omega arith))
 
 pub are-digits-spec : {M : Type 1} → statement M
 are-digits-spec =
@@ -52,12 +45,12 @@ are-digits-spec =
     (tie.spec
     Inv-loop
     μ-loop
-    returns
-    loop-holds
-    shared-slice-read-is-digit
-    is-digit-requires
+    (λ c. rw (lt-leb 1 (length (c .before .before .args .s .now)) (omega arith)))
+    (λ c. (search needs, refl))
+    (λ c. search needs)
+    (λ c κs. search needs)
     returns-2
-    add-i
-    loop-less
+    (λ c. search needs)
+    (λ c. search needs)
     loop-again
     returns-3)

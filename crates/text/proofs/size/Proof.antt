@@ -1,42 +1,43 @@
+-- `text::size` meets its contract. The loop's invariant: the digits that are left, after the value so far, make the value. Assumes nothing.
+use borrow.Author.Needs.{needs}
+use borrow.Author.Tests.{leb-true}
+use native.Mathlib.Omega.{arith}
+use mathlib.Core.Path.{_≡_, refl, sym, _∙_}
+use Prim.Native.Nat.{_+_, _-_, _*_, _≤_, min}
+use lib.Dec.{leb}
+use lib.ListN.{length, getD, drop}
+use Rattle.text.specs.Runs.{each-at, both, drop-next, drop-end}
+use Rattle.text.specs.Number.{isDigit, decimal, most, kept, kept-decimal}
 use Rattle.text.proofs.size.Statement.{statement}
 use Rattle.text.proofs.size.Tie as tie
-use Rattle.text.proofs.size.Reads as reads
-use Rattle.text.proofs.size.Lts as lts
-use Rattle.text.proofs.more.Reads as more-reads
 
 abbrev Inv-loop : tie.InvT-loop
-Inv-loop s n₀ i₀ n i = ?
+Inv-loop s n₀ i₀ n i = (i ≤ length s) × (n ≤ most) × (min (decimal n (drop i s)) most ≡ min (decimal 0 s) most)
 
 abbrev μ-loop : tie.MeasureT-loop
-μ-loop s n₀ i₀ n i = ?
+μ-loop s n₀ i₀ n i = length s - i
 
--- src/lib.rt:139:5
-loop-holds : tie.Need-loop-holds Inv-loop μ-loop
-loop-holds c = ?
-
--- src/lib.rt:140:21
-shared-slice-read-more : tie.Need-shared-slice-read-more Inv-loop μ-loop
-shared-slice-read-more c = ?
-
--- src/lib.rt:140:9
 more-requires : tie.Need-more-requires Inv-loop μ-loop
-more-requires c κs = ?
+more-requires c κs =
+    let l = c .before .before in
+    let b = getD (l .before .before .args .s .now) (l .loop .i) 0 in
+    (search needs, leb-true 48 b (both (leb 48 b) (leb b 57) (each-at isDigit (l .before .before .args .s .now) (l .loop .i) (l .before .before .pre) (search needs)) .0))
 
--- src/lib.rt:141:9
-add-i : tie.Need-add-i Inv-loop μ-loop
-add-i c = ?
-
--- src/lib.rt:139:5
-loop-less : tie.Need-loop-less Inv-loop μ-loop
-loop-less c = ?
-
--- src/lib.rt:139:5
 loop-again : tie.Need-loop-again Inv-loop μ-loop
-loop-again c = ?
+unfolding decimal
+loop-again c =
+    let l = c .before .before .before in
+    let s = l .before .before .args .s .now in
+    let i = l .loop .i in
+    (search needs, rw (c .more .ensures) (omega arith), rw (c .more .ensures) (kept-decimal (l .loop .n * 10 + (getD s i 0 - 48)) (drop (i + 1) s) ∙ rw (drop-next s i 0 (search needs)) at (l .loop .inv .2)))
 
--- src/lib.rt:133:1
 returns : tie.Need-returns Inv-loop μ-loop
-returns c = ?
+unfolding decimal
+returns c =
+    let l = c .before in
+    let s = l .before .before .args .s .now in
+    let e = rw (drop-end s (l .loop .i) (search needs)) at (l .loop .inv .2) in
+    omega arith
 
 pub size-spec : {M : Type 1} → statement M
 size-spec =
@@ -44,10 +45,10 @@ size-spec =
     (tie.spec
     Inv-loop
     μ-loop
-    loop-holds
-    shared-slice-read-more
+    (λ c. (search needs, search needs, refl))
+    (λ c. search needs)
     more-requires
-    add-i
-    loop-less
+    (λ c. search needs)
+    (λ c. search needs)
     loop-again
     returns)
