@@ -13,7 +13,7 @@ use mir.Syntax.{w64}
 use mir.Val.{SFits}
 use borrow.Author.Tests.{leb-true, ne-eqb}
 use Rattle.text.specs.Stores.{sets-append}
-use Rattle.text.specs.Runs.{among, sort, begins, each, both, each-cons, drop-next, drop-end}
+use Rattle.text.specs.Runs.{among, other, begins, each, both, each-cons, drop-next, drop-end}
 use Rattle.text.specs.Number.{isDigit}
 use Rattle.text.specs.Shown.{shown, digits, each-digit, some-digit, few-bytes}
 use Rattle.text.specs.Words.{isBlank, words, words-word, words-gap}
@@ -28,13 +28,16 @@ unfoldable pub lineOf : List ℤ → List ℕ
 lineOf [] = []
 lineOf (z ∷ zs) = shown z ++ (after (length zs) ∷ lineOf zs)
 
--- a line at the beginning of a table of 147 entries, which are 0 after it
+-- a line at the beginning of a table whose later entries are 0; seven numbers of 64 bits have room
+abbrev pub room : ℕ
+room = 147
+
 abbrev pub lineIn : List ℤ → Line
-lineIn zs = record { bytes = sets (replicate 147 0) 0 (lineOf zs); len = length (lineOf zs) }
+lineIn zs = record { bytes = sets (replicate room 0) 0 (lineOf zs); len = length (lineOf zs) }
 
 -- ---- its words are the numbers
 
-no-blank : (s : List ℕ) → each isDigit s ≡ true → each (sort false isBlank) s ≡ true
+no-blank : (s : List ℕ) → each isDigit s ≡ true → each (other isBlank) s ≡ true
 unfolding each among
 no-blank [] h = refl
 no-blank (b ∷ s) h =
@@ -46,7 +49,7 @@ shown-some : (z : ℤ) → 0 < length (shown z)
 shown-some (pos n) = some-digit n
 shown-some (negsuc n) = omega arith
 
-shown-blank : (z : ℤ) → each (sort false isBlank) (shown z) ≡ true
+shown-blank : (z : ℤ) → each (other isBlank) (shown z) ≡ true
 unfolding each among
 shown-blank (pos n) = no-blank (digits n) (each-digit n)
 shown-blank (negsuc n) = no-blank (digits (suc n)) (each-digit (suc n))
@@ -76,10 +79,10 @@ few-line [] h = omega arith
 few-line (z ∷ zs) h = simp length-append (omega (arith, few-bytes z (h .0), few-line zs (h .1)))
 
 -- the first `len` bytes are the line
-pub line-bytes : (zs : List ℤ) → length (lineOf zs) ≤ 147 → take (lineIn zs .len) (lineIn zs .bytes) ≡ lineOf zs
+pub line-bytes : (zs : List ℤ) → length (lineOf zs) ≤ room → take (lineIn zs .len) (lineIn zs .bytes) ≡ lineOf zs
 line-bytes zs h =
     let e : 0 + length (lineOf zs) ≡ length (lineOf zs) = omega arith in
-    rw (sets-eq (lineOf zs) (replicate 147 0) 0 (rw (e, length-replicate {A = ℕ} 147 0) h)) (take-at (lineOf zs) (drop (0 + length (lineOf zs)) (replicate 147 0)) (length (lineOf zs)) refl)
+    rw (sets-eq (lineOf zs) (replicate room 0) 0 (rw (e, length-replicate {A = ℕ} room 0) h)) (take-at (lineOf zs) (drop (0 + length (lineOf zs)) (replicate room 0)) (length (lineOf zs)) refl)
 
 -- ---- a loop that stores it: from `end` on the numbers from i on are left
 

@@ -1,19 +1,14 @@
 -- "A number, here and in any text, is an optional minus sign and one or more digits." Assumes nothing.
-use mathlib.Core.Path.{_≡_, refl, sym, _∙_, ap}
+use mathlib.Core.Path.{_≡_, refl}
 use mathlib.Core.Bool.{Bool, true, false, cond, _&&_, false≢true}
 use mathlib.Core.List.{List, [], _∷_, _++_}
-use Prim.Native.Nat.{ℕ, zero, suc, _+_, _-_, _*_, _≤_, _<_, min}
+use Prim.Native.Nat.{ℕ, _+_, _-_, _*_, _≤_, _<_}
 use native.Mathlib.Omega.{arith}
-use native.Mathlib.Decide.{decLe}
-use lib.Dec.{leb, ltb, eqb}
-use lib.IntN.{ℤ, pos, negsuc, negℤ, natAbs}
-use lib.ListN.{length, getD, drop}
-use lib.Signed.{ltZ}
-use borrow.Author.Tests.{lt-ltb, le-ltb}
-use Rattle.whole.specs.Bounds.{_within_, abs-neg}
-use Rattle.text.specs.Runs.{each}
-use Rattle.text.specs.declared.Read.{Read}
-use Rattle.text.specs.declared.Read.the-variants.{Number, Malformed}
+use lib.Dec.{leb, eqb}
+use lib.IntN.{ℤ, pos, negℤ}
+use lib.ListN.{length, getD}
+use borrow.Author.Tests.{leb-true, le-leb, eqb-true, ne-eqb}
+use Rattle.text.specs.Runs.{each, both, each-cons, each-at, each-all}
 
 -- "an optional minus sign": whether it is there, and what follows it
 abbrev pub hasMinus : List ℕ → Bool
@@ -39,7 +34,7 @@ unfoldable pub decimal : ℕ → List ℕ → ℕ
 decimal n [] = n
 decimal n (b ∷ s) = decimal (n * 10 + (b - 48)) s
 
--- a size with a sign
+-- a size with a minus sign, or with none
 abbrev pub signed : Bool → ℕ → ℤ
 signed true n = negℤ (pos n)
 signed false n = pos n
@@ -48,75 +43,62 @@ signed false n = pos n
 abbrev pub value : List ℕ → ℤ
 value word = signed (hasMinus word) (decimal 0 (unsigned word))
 
--- ---- what the machine keeps of a value: beyond a billion either way, a billion; every limit of the sheet is far below
+-- ---- what they mean
 
-abbrev pub most : ℕ
-most = 1000000000
+pub data Sign : List ℕ → Type 0 where
+  no-sign : Sign []
+  minus : Sign (45 ∷ [])
 
-abbrev pub clamp : ℤ → ℤ
-clamp (pos n) = pos (min n most)
-clamp (negsuc n) = negℤ (pos (min (suc n) most))
+pub record IsNumber (word : List ℕ) : Type 0 where
+  pub sign : List ℕ
+  pub digits : List ℕ
+  pub is : word ≡ sign ++ digits
+  pub optional : Sign sign
+  pub some : 1 ≤ length digits
+  pub digit : (k : ℕ) → k < length digits → (48 ≤ getD digits k 0) × (getD digits k 0 ≤ 57)
 
-abbrev pub readOf : List ℕ → Read
-readOf word = cond (isNumber word) (Number (clamp (value word))) Malformed
+-- digits begin with no minus sign
+pub no-minus : (s : List ℕ) → each isDigit s ≡ true → (hasMinus s ≡ false) × (unsigned s ≡ s)
+no-minus [] h = (refl, refl)
+no-minus (b ∷ s) h =
+    let l = leb-true 48 b (both (leb 48 b) (leb b 57) (each-cons isDigit b s h .0) .0) in
+    rw (ne-eqb b 45 (λ e. omega arith)) (refl, refl)
 
--- ---- how it is read
-
--- what is kept of digits of the value n, with the digit b more
-abbrev pub kept : ℕ → ℕ → ℕ
-kept n b = min (n * 10 + (b - 48)) most
-
--- no digit makes the value less, so that what is kept after each digit is what is kept of the whole
-decimal-le : (n : ℕ) (s : List ℕ) → n ≤ decimal n s
+-- each digit counts for ten times as much as the next
+pub decimal-snoc : (n : ℕ) (s : List ℕ) (b : ℕ) → decimal n (s ++ (b ∷ [])) ≡ decimal n s * 10 + (b - 48)
 unfolding decimal
-decimal-le n [] = omega arith
-decimal-le n (b ∷ s) = omega (arith, decimal-le (n * 10 + (b - 48)) s)
+decimal-snoc n [] b = refl
+decimal-snoc n (a ∷ s) b = decimal-snoc (n * 10 + (a - 48)) s b
 
-pub kept-decimal : (n : ℕ) (s : List ℕ) → min (decimal (min n most) s) most ≡ min (decimal n s) most
-kept-decimal n s = elim (decLe n most) [
-  | yes l ↦ let e : min n most ≡ n = omega arith in rw e
-  | no l ↦ let e : min n most ≡ most = omega arith in rw e (omega (arith, decimal-le most s, decimal-le n s))
-]
+spelled : (sign digits : List ℕ) → Sign sign → areDigits digits ≡ true → IsNumber (sign ++ digits)
+spelled sign digits s h =
+    let d = both (leb 1 (length digits)) (each isDigit digits) h in
+    record {
+      sign = sign;
+      digits = digits;
+      is = refl;
+      optional = s;
+      some = leb-true 1 (length digits) (d .0);
+      digit = λ k l.
+          let b = getD digits k 0 in
+          let t = both (leb 48 b) (leb b 57) (each-at isDigit digits k (d .1) l) in
+          (leb-true 48 b (t .0), leb-true b 57 (t .1));
+    }
 
--- the sign first, then the digits
-abbrev pub readDigits : Bool → List ℕ → Read
-readDigits minus s = cond (areDigits s) (Number (signed minus (min (decimal 0 s) most))) Malformed
+pub number-is : (word : List ℕ) → isNumber word ≡ true → IsNumber word
+number-is [] h = absurd (false≢true h)
+number-is (b ∷ s) h = cases (eqb b 45) refl h
+  where
+    cases : (t : Bool) → eqb b 45 ≡ t → areDigits (cond t s (b ∷ s)) ≡ true → IsNumber (b ∷ s)
+    cases true e g = rw (eqb-true b 45 e) (spelled (45 ∷ []) s minus g)
+    cases false e g = spelled [] (b ∷ s) no-sign g
 
-clamp-minus : (n : ℕ) → clamp (negℤ (pos n)) ≡ negℤ (pos (min n most))
-clamp-minus zero = refl
-clamp-minus (suc n) = refl
+pub is-number : {word : List ℕ} → IsNumber word → isNumber word ≡ true
+is-number n = rw (n .is) (go (n .sign) (n .digits) (n .optional) (all (n .digits) (n .some) (n .digit)))
+  where
+    all : (s : List ℕ) → 1 ≤ length s → ((k : ℕ) → k < length s → (48 ≤ getD s k 0) × (getD s k 0 ≤ 57)) → areDigits s ≡ true
+    all s l d = rw (le-leb 1 (length s) l) (each-all isDigit s (λ k b. rw (le-leb 48 (getD s k 0) (d k b .0), le-leb (getD s k 0) 57 (d k b .1))))
 
-pub minus-some : (word : List ℕ) → hasMinus word ≡ true → 1 ≤ length word
-minus-some [] e = absurd (false≢true e)
-minus-some (b ∷ s) e = omega arith
-
-pub read-minus : (word : List ℕ) → hasMinus word ≡ true → readDigits true (drop 1 word) ≡ readOf word
-read-minus [] e = absurd (false≢true e)
-read-minus (b ∷ s) e = rw (e, clamp-minus (decimal 0 s))
-
-pub read-plain : (word : List ℕ) → hasMinus word ≡ false → readDigits false word ≡ readOf word
-read-plain [] e = refl
-read-plain (b ∷ s) e = rw e
-
--- ---- what the clamp leaves
-
-min-is : (n : ℕ) → n ≤ most → min n most ≡ n
-min-is n h = omega arith
-
--- a value within the clamp is kept
-pub clamp-is : {z : ℤ} → z within most → clamp z ≡ z
-clamp-is {z = pos n} h = ap pos (min-is n (h .abs))
-clamp-is {z = negsuc n} h = ap (λ k. negℤ (pos k)) (min-is (suc n) (h .abs))
-
--- a limit below the clamp holds of what is kept exactly where it holds of the value, which is then kept
-abs-clamp : (z : ℤ) → natAbs (clamp z) ≡ min (natAbs z) most
-abs-clamp (pos n) = refl
-abs-clamp (negsuc n) = abs-neg (pos (min (suc n) most))
-
-pub clamp-within : (z : ℤ) (N : ℕ) → N < most → z within N → clamp z within N
-clamp-within z N l h = record { abs = omega (arith, abs-clamp z) }
-
-pub within-clamp : (z : ℤ) (N : ℕ) → N < most → clamp z within N → (z within N) × (clamp z ≡ z)
-within-clamp z N l h = (record { abs = omega (arith, abs-clamp z) }, clamp-is (record { abs = omega (arith, abs-clamp z) }))
-
--- so a comparison with such a limit has one answer for both
+    go : (sign s : List ℕ) → Sign sign → areDigits s ≡ true → isNumber (sign ++ s) ≡ true
+    go sign s no-sign h = rw (no-minus s (both (leb 1 (length s)) (each isDigit s) h .1) .1) h
+    go sign s minus h = h

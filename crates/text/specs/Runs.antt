@@ -1,4 +1,4 @@
--- Bytes of one sort: which are in a set, whether each passes a test, and how far a run of them goes. Assumes nothing.
+-- Bytes of one sort: which are in a set, whether each passes a test, how far a run of them goes. Assumes nothing.
 use mathlib.Core.Path.{_≡_, refl, sym, _∙_, ap}
 use mathlib.Core.Bool.{Bool, true, false, cond, not, Bool·beq, _&&_, _||_, and-assoc, false≢true}
 use mathlib.Core.List.{List, [], _∷_, _++_}
@@ -14,26 +14,16 @@ unfoldable pub among : List ℕ → ℕ → Bool
 among [] b = false
 among (a ∷ set) b = eqb a b || among set b
 
--- a test, or its contrary
+-- the bytes that a test leaves out, and the one sort or the other
+abbrev pub other : (ℕ → Bool) → ℕ → Bool
+other p b = not (p b)
+
 abbrev pub agrees : Bool → Bool → Bool
 agrees true t = t
 agrees false t = not t
 
 abbrev pub sort : Bool → (ℕ → Bool) → ℕ → Bool
 sort inside p b = agrees inside (p b)
-
--- as the machine tells
-pub unlike : (inside t : Bool) → not (Bool·beq t inside) ≡ true → agrees inside t ≡ false
-unlike true true e = sym e
-unlike true false e = refl
-unlike false true e = refl
-unlike false false e = sym e
-
-pub alike : (inside t : Bool) → not (Bool·beq t inside) ≡ false → agrees inside t ≡ true
-alike true true e = refl
-alike true false e = sym e
-alike false true e = sym e
-alike false false e = refl
 
 -- each byte passes a test
 unfoldable pub each : (ℕ → Bool) → List ℕ → Bool
@@ -50,7 +40,21 @@ abbrev pub begins : (ℕ → Bool) → List ℕ → Bool
 begins p [] = false
 begins p (b ∷ s) = p b
 
--- a loop over i has `drop i` before it
+-- ---- what they mean
+
+pub unlike : (inside t : Bool) → not (Bool·beq t inside) ≡ true → agrees inside t ≡ false
+unlike true true e = sym e
+unlike true false e = refl
+unlike false true e = refl
+unlike false false e = sym e
+
+pub alike : (inside t : Bool) → not (Bool·beq t inside) ≡ false → agrees inside t ≡ true
+alike true true e = refl
+alike true false e = sym e
+alike false true e = sym e
+alike false false e = refl
+
+-- what a loop over i has before it
 pub drop-next : {A : Type 0} (s : List A) (i : ℕ) (d : A) → i < length s → drop i s ≡ getD s i d ∷ drop (i + 1) s
 drop-next s i d h = rw add-one (drop-cons s i d h)
 
@@ -69,6 +73,11 @@ pub each-at : (p : ℕ → Bool) (s : List ℕ) (i : ℕ) → each p s ≡ true 
 each-at p [] i h l = absurd (not-suc-le-zero l)
 each-at p (b ∷ s) zero h l = each-cons p b s h .0
 each-at p (b ∷ s) (suc i) h l = each-at p s i (each-cons p b s h .1) (le-of-suc-le-suc l)
+
+pub each-all : (p : ℕ → Bool) (s : List ℕ) → ((i : ℕ) → i < length s → p (getD s i 0) ≡ true) → each p s ≡ true
+unfolding each
+each-all p [] h = refl
+each-all p (b ∷ s) h = rw (h 0 (suc-le-suc zero-le), each-all p s (λ i l. h (suc i) (suc-le-suc l)))
 
 pub each-append : (p : ℕ → Bool) (s t : List ℕ) → each p (s ++ t) ≡ (each p s && each p t)
 unfolding each

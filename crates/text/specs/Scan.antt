@@ -7,10 +7,10 @@ use native.Mathlib.Decide.{decLt}
 use native.Mathlib.Nat.{add-zero}
 use native.Mathlib.Numerals.{add-one}
 use native.Mathlib.Omega.{arith}
-use lib.ListN.{length, getD, take, drop, length-drop, List·getD-eq-default}
-use lib.Seq.{drop-drop, getD-drop, take-nil}
-use Rattle.text.specs.Runs.{sort, run, run-le, drop-next, drop-end}
-use Rattle.text.specs.Words.{words, wordOf, some-word, passed, some-word, no-word}
+use lib.ListN.{length, getD, take, drop, length-drop}
+use lib.Seq.{drop-drop, getD-drop}
+use Rattle.text.specs.Runs.{other, run, run-le, drop-next, drop-end}
+use Rattle.text.specs.Words.{words, wordOf, passed, some-word, no-word}
 use Rattle.text.specs.declared.Part.{Part}
 
 -- the end of the run of bytes, from a place on, that pass a test
@@ -19,7 +19,7 @@ pastOf p s at = at + run p (drop at s)
 
 -- the first word from a place on
 abbrev pub nextOf : (ℕ → Bool) → List ℕ → ℕ → Part
-nextOf blank s at = record { start = pastOf blank s at; end = pastOf (sort false blank) s (pastOf blank s at) }
+nextOf blank s at = record { start = pastOf blank s at; end = pastOf (other blank) s (pastOf blank s at) }
 
 -- word number k, counted from 0
 unfoldable pub nthOf : (ℕ → Bool) → List ℕ → ℕ → Part
@@ -49,9 +49,9 @@ module _ (blank : ℕ → Bool) (s : List ℕ) where
   past-le p at h = omega (arith, run-le p (drop at s), length-drop at s)
 
   -- one step of the scanner passes a blanks and n other bytes
-  module _ (at a n : ℕ) (blanks : a ≡ run blank (drop at s)) (others : n ≡ run (sort false blank) (drop (at + a) s)) where
-    there : n ≡ run (sort false blank) (drop a (drop at s))
-    there = others ∙ ap (run (sort false blank)) (sym (drop-drop a at s))
+  module _ (at a n : ℕ) (blanks : a ≡ run blank (drop at s)) (others : n ≡ run (other blank) (drop (at + a) s)) where
+    there : n ≡ run (other blank) (drop a (drop at s))
+    there = others ∙ ap (run (other blank)) (sym (drop-drop a at s))
 
     a-word : 0 < n → words blank (drop at s) ≡ take n (drop (at + a) s) ∷ words blank (drop (at + a + n) s)
     a-word l = some-word blank (drop at s) a n blanks there l ∙ rw (drop-drop a at s, drop-drop n (at + a) s)
@@ -68,15 +68,15 @@ module _ (blank : ℕ → Bool) (s : List ℕ) where
 
     size : ℕ
     unfolding gap
-    size = run (sort false blank) (drop (at + gap) s)
+    size = run (other blank) (drop (at + gap) s)
 
     -- where it finds a word, that is the first of those that follow
     pub step-some : nextOf blank s at .start < nextOf blank s at .end
         → words blank (drop at s) ≡ partOf s (nextOf blank s at) ∷ words blank (drop (nextOf blank s at .end) s)
     unfolding gap size
     step-some l =
-      let e : nextOf blank s at .end - nextOf blank s at .start ≡ size = omega arith in
-      rw e (a-word at gap size refl refl (omega arith))
+        let e : nextOf blank s at .end - nextOf blank s at .start ≡ size = omega arith in
+        rw e (a-word at gap size refl refl (omega arith))
 
     -- and where it finds none, none follows
     pub step-none : nextOf blank s at .end ≤ nextOf blank s at .start
@@ -109,7 +109,7 @@ module _ (blank : ℕ → Bool) (s : List ℕ) where
   nth-word (suc k) = first-word (nthOf blank s k .end) ∙ rw (nth-rest k, getD-drop (suc k) (words blank s) 0 [], add-zero)
 
   next-within : (at : ℕ) → at ≤ length s → (nextOf blank s at .start ≤ nextOf blank s at .end) × (nextOf blank s at .end ≤ length s)
-  next-within at h = (omega arith, past-le (sort false blank) (pastOf blank s at) (past-le blank at h))
+  next-within at h = (omega arith, past-le (other blank) (pastOf blank s at) (past-le blank at h))
 
   pub nth-within : (k : ℕ) → (nthOf blank s k .start ≤ nthOf blank s k .end) × (nthOf blank s k .end ≤ length s)
   unfolding nthOf

@@ -1,20 +1,23 @@
 -- The decimal text of a whole number. Assumes nothing.
-use mathlib.Core.Path.{_≡_, refl, sym, _∙_, ap}
-use mathlib.Core.Bool.{Bool, true, false, cond, true≢false}
+use mathlib.Core.Path.{_≡_, refl, ap}
+use mathlib.Core.Bool.{true, false, cond, true≢false}
 use mathlib.Core.List.{List, [], _∷_, _++_}
 use Prim.Native.Nat.{ℕ, zero, suc, _+_, _-_, _*_, _/_, _%_, _^_, _≤_, _<_}
-use native.Mathlib.Nat.{div-add-mod', pow-suc, div-lt-iff-lt-mul}
+use native.Mathlib.Nat.{pow-suc, div-lt-iff-lt-mul}
 use native.Mathlib.Decide.{decLt}
 use native.Mathlib.Omega.{arith}
-use lib.Dec.{leb, ltb, lit<}
+use lib.Dec.{ltb, lit<}
 use lib.IntN.{ℤ, pos, negsuc, natAbs}
 use lib.Signed.{ltZ}
 use lib.ListN.{length, length-append, getD, List·getD-append}
-use borrow.Author.Tests.{lt-ltb, le-ltb, le-leb, leb-true, ltb-true, ne-eqb}
+use borrow.Author.Tests.{lt-ltb, le-ltb, le-leb, ltb-true}
 use mir.Syntax.{w64}
 use mir.Val.{SFits}
-use Rattle.text.specs.Runs.{each, both, each-cons, each-append}
-use Rattle.text.specs.Number.{isDigit, areDigits, decimal, hasMinus, unsigned, isNumber, value}
+use Rattle.whole.specs.Bounds.{_within_}
+use Rattle.text.specs.Runs.{each, each-append}
+use Rattle.text.specs.Number.{isDigit, areDigits, decimal, decimal-snoc, no-minus, isNumber, value}
+use Rattle.text.specs.Reading.{most, readOf, clamp-is}
+use Rattle.text.specs.declared.Read.the-variants.{Number}
 
 -- a digit's byte
 abbrev pub digit : ℕ → ℕ
@@ -80,11 +83,6 @@ by-digits P one more n = go n n (omega arith)
 
 -- ---- what is shown, read again
 
-decimal-snoc : (n : ℕ) (s : List ℕ) (b : ℕ) → decimal n (s ++ (b ∷ [])) ≡ decimal n s * 10 + (b - 48)
-unfolding decimal
-decimal-snoc n [] b = refl
-decimal-snoc n (a ∷ s) b = decimal-snoc (n * 10 + (a - 48)) s b
-
 decimal-digits : (n : ℕ) → decimal 0 (digits n) ≡ n
 unfolding decimal
 decimal-digits = by-digits (λ n. decimal 0 (digits n) ≡ n)
@@ -105,16 +103,7 @@ some-digit = by-digits (λ n. 1 ≤ length (digits n))
 pub are-digits : (n : ℕ) → areDigits (digits n) ≡ true
 are-digits n = rw (le-leb 1 (length (digits n)) (some-digit n), each-digit n)
 
--- "one or more digits" begin with no minus sign
-no-minus : (s : List ℕ) → each isDigit s ≡ true → (hasMinus s ≡ false) × (unsigned s ≡ s)
-unfolding each
-no-minus [] h = (refl, refl)
-no-minus (b ∷ s) h =
-    let d = both (leb 48 b) (leb b 57) (each-cons isDigit b s h .0) in
-    let l : 48 ≤ b = leb-true 48 b (d .0) in
-    rw (ne-eqb b 45 (λ e. omega arith)) (refl, refl)
-
--- "reading what was written gives the number back"
+-- reading what was written gives the number back
 pub value-shown : (z : ℤ) → value (shown z) ≡ z
 value-shown (pos n) = let m = no-minus (digits n) (each-digit n) in rw (m .0, m .1, decimal-digits n)
 value-shown (negsuc n) = rw (decimal-digits (suc n))
@@ -122,6 +111,9 @@ value-shown (negsuc n) = rw (decimal-digits (suc n))
 pub number-shown : (z : ℤ) → isNumber (shown z) ≡ true
 number-shown (pos n) = rw (no-minus (digits n) (each-digit n) .1) (are-digits n)
 number-shown (negsuc n) = are-digits (suc n)
+
+pub read-shown : {z : ℤ} → z within most → readOf (shown z) ≡ Number z
+read-shown {z} h = rw (number-shown z, value-shown z, clamp-is h)
 
 -- no leading zeros: but for "0" itself, the first digit is not 0
 pub first-digit : (n : ℕ) → 0 < n → 49 ≤ getD (digits n) 0 0

@@ -5,9 +5,10 @@ use mathlib.Core.List.{List, [], _∷_, _++_, append-nil}
 use Prim.Native.Nat.{ℕ, zero, suc, _+_, _-_, _≤_, _<_}
 use native.Mathlib.Decide.{decLt}
 use native.Mathlib.Omega.{arith}
+use lib.Dec.{eqb, ltb}
 use lib.ListN.{length, getD, take, drop, take-append-drop, length-take, List·getD-eq-default}
-use borrow.Author.Tests.{not-true, not-false}
-use Rattle.text.specs.Runs.{among, sort, begins, each, each-cons, run, run-each, run-stops, run-le}
+use borrow.Author.Tests.{not-true, not-false, lt-ltb, le-ltb, ne-eqb}
+use Rattle.text.specs.Runs.{among, other, begins, each, each-cons, run, run-each, run-stops, run-le}
 
 -- byte b before the words that follow: the first of them goes on from b, or b is a word by itself
 abbrev pub grown : Bool → ℕ → List (List ℕ) → List (List ℕ)
@@ -17,7 +18,7 @@ grown false b ws = (b ∷ []) ∷ ws
 
 unfoldable pub words : (ℕ → Bool) → List ℕ → List (List ℕ)
 words blank [] = []
-words blank (b ∷ s) = let ws = words blank s in cond (blank b) ws (grown (begins (sort false blank) s) b ws)
+words blank (b ∷ s) = let ws = words blank s in cond (blank b) ws (grown (begins (other blank) s) b ws)
 
 -- word number k, counted from 0; no byte where there are not so many
 abbrev pub wordOf : (ℕ → Bool) → List ℕ → ℕ → List ℕ
@@ -33,11 +34,11 @@ isBlank = among (32 ∷ 10 ∷ [])
 pub data Parted (blank : ℕ → Bool) : List ℕ → List (List ℕ) → Type 0 where
   all-blank : {s : List ℕ} → each blank s ≡ true → Parted blank s []
   next-word : {t : List ℕ} {ws : List (List ℕ)} (gap w s : List ℕ) → t ≡ gap ++ (w ++ s)
-      → each blank gap ≡ true → 0 < length w → each (sort false blank) w ≡ true → begins (sort false blank) s ≡ false → Parted blank s ws → Parted blank t (w ∷ ws)
+      → each blank gap ≡ true → 0 < length w → each (other blank) w ≡ true → begins (other blank) s ≡ false → Parted blank s ws → Parted blank t (w ∷ ws)
 
 module _ (blank : ℕ → Bool) where
   -- all blanks before a text
-  begins-blank : (s : List ℕ) → each blank s ≡ true → begins (sort false blank) s ≡ false
+  begins-blank : (s : List ℕ) → each blank s ≡ true → begins (other blank) s ≡ false
   begins-blank [] h = refl
   begins-blank (b ∷ s) h = rw (each-cons blank b s h .0)
 
@@ -47,19 +48,19 @@ module _ (blank : ℕ → Bool) where
   words-gap (b ∷ gap) s h = let e = each-cons blank b gap h in rw (e .0) (words-gap gap s (e .1))
 
   -- a word at a text's beginning
-  begins-word : (w s : List ℕ) → 0 < length w → each (sort false blank) w ≡ true → begins (sort false blank) (w ++ s) ≡ true
+  begins-word : (w s : List ℕ) → 0 < length w → each (other blank) w ≡ true → begins (other blank) (w ++ s) ≡ true
   begins-word [] s l h = absurd (omega arith)
-  begins-word (b ∷ w) s l h = each-cons (sort false blank) b w h .0
+  begins-word (b ∷ w) s l h = each-cons (other blank) b w h .0
 
-  words-byte : (b : ℕ) (s : List ℕ) → sort false blank b ≡ true → words blank (b ∷ s) ≡ grown (begins (sort false blank) s) b (words blank s)
+  words-byte : (b : ℕ) (s : List ℕ) → other blank b ≡ true → words blank (b ∷ s) ≡ grown (begins (other blank) s) b (words blank s)
   unfolding words
   words-byte b s h = rw (not-true (blank b) h)
 
-  pub words-word : (w s : List ℕ) → 0 < length w → each (sort false blank) w ≡ true → begins (sort false blank) s ≡ false → words blank (w ++ s) ≡ w ∷ words blank s
+  pub words-word : (w s : List ℕ) → 0 < length w → each (other blank) w ≡ true → begins (other blank) s ≡ false → words blank (w ++ s) ≡ w ∷ words blank s
   words-word [] s l h o = absurd (omega arith)
-  words-word (b ∷ []) s l h o = words-byte b s (each-cons (sort false blank) b [] h .0) ∙ rw o
+  words-word (b ∷ []) s l h o = words-byte b s (each-cons (other blank) b [] h .0) ∙ rw o
   words-word (b ∷ a ∷ w) s l h o =
-      let e = each-cons (sort false blank) b (a ∷ w) h in
+      let e = each-cons (other blank) b (a ∷ w) h in
       words-byte b (a ∷ (w ++ s)) (e .0) ∙ rw (words-word (a ∷ w) s (omega arith) (e .1) o, begins-word (a ∷ w) s (omega arith) (e .1))
 
   -- no two answers fit
@@ -68,7 +69,7 @@ module _ (blank : ℕ → Bool) where
   parted-is (all-blank {s} h) = rw (← append-nil s) (words-gap s [] h)
   parted-is (next-word gap w s e g l h o p) = rw (e, words-gap gap (w ++ s) g, words-word w s l h o, parted-is p)
 
-  grow : (b : ℕ) (s : List ℕ) (ws : List (List ℕ)) → Parted blank s ws → (t : Bool) → blank b ≡ t → Parted blank (b ∷ s) (cond t ws (grown (begins (sort false blank) s) b ws))
+  grow : (b : ℕ) (s : List ℕ) (ws : List (List ℕ)) → Parted blank s ws → (t : Bool) → blank b ≡ t → Parted blank (b ∷ s) (cond t ws (grown (begins (other blank) s) b ws))
   unfolding each
   grow b s ws (all-blank h) true e = all-blank {s = b ∷ s} (rw (e, h))
   grow b s ws (next-word gap w s' q g l h o p) true e = next-word (b ∷ gap) w s' (ap (λ x. b ∷ x) q) (rw (e, g)) l h o p
@@ -76,7 +77,7 @@ module _ (blank : ℕ → Bool) where
   grow b s ws (next-word [] w s' q g l h o p) false e = rw (q, begins-word w s' l h) (next-word [] (b ∷ w) s' refl refl (omega arith) (rw (e, h)) o p)
   grow b s ws (next-word (a ∷ gap) w s' q g l h o p) false e =
       let c = each-cons blank a gap g in
-      let n : begins (sort false blank) s ≡ false = rw (q, c .0) in
+      let n : begins (other blank) s ≡ false = rw (q, c .0) in
       rw n (next-word [] (b ∷ []) s refl refl (omega arith) (rw e) n (next-word (a ∷ gap) w s' q g l h o p))
 
   pub is-parted : (s : List ℕ) → Parted blank s (words blank s)
@@ -86,57 +87,35 @@ module _ (blank : ℕ → Bool) where
 
   -- ---- a scanner passes over blanks, and then over the bytes of a word
 
-  neither : (s : List ℕ) → begins blank s ≡ false → begins (sort false blank) s ≡ false → s ≡ []
+  neither : (s : List ℕ) → begins blank s ≡ false → begins (other blank) s ≡ false → s ≡ []
   neither [] h g = refl
   neither (b ∷ s) h g = absurd (true≢false (sym (not-false (blank b) g) ∙ h))
 
   -- the words of s, where a blanks and then n other bytes are passed over
-  module _ (s : List ℕ) (a n : ℕ) (blanks : a ≡ run blank s) (others : n ≡ run (sort false blank) (drop a s)) where
+  module _ (s : List ℕ) (a n : ℕ) (blanks : a ≡ run blank s) (others : n ≡ run (other blank) (drop a s)) where
     pub passed : words blank s ≡ words blank (drop a s)
     passed = ap (words blank) (sym (take-append-drop a s)) ∙ words-gap (take a s) (drop a s) (rw blanks (run-each blank s))
 
     pub some-word : 0 < n → words blank s ≡ take n (drop a s) ∷ words blank (drop n (drop a s))
     some-word l =
         passed ∙ ap (words blank) (sym (take-append-drop n (drop a s)))
-        ∙ words-word (take n (drop a s)) (drop n (drop a s)) (rw (length-take n (drop a s), others) (omega (arith, run-le (sort false blank) (drop a s))))
-        (rw others (run-each (sort false blank) (drop a s))) (rw others (run-stops (sort false blank) (drop a s)))
+        ∙ words-word (take n (drop a s)) (drop n (drop a s)) (rw (length-take n (drop a s), others) (omega (arith, run-le (other blank) (drop a s))))
+        (rw others (run-each (other blank) (drop a s))) (rw others (run-stops (other blank) (drop a s)))
 
     pub no-word : n ≡ 0 → words blank s ≡ []
     unfolding words
     no-word e =
         passed ∙ ap (words blank)
-        (neither (drop a s) (rw blanks (run-stops blank s)) (rw (sym others ∙ e) at (run-stops (sort false blank) (drop a s))))
+        (neither (drop a s) (rw blanks (run-stops blank s)) (rw (sym others ∙ e) at (run-stops (other blank) (drop a s))))
 
-  -- no word is empty
-  grown-full : (t : Bool) (b : ℕ) (ws : List (List ℕ)) → ((k : ℕ) → k < length ws → 0 < length (getD ws k []))
-      → (k : ℕ) → k < length (grown t b ws) → 0 < length (getD (grown t b ws) k [])
-  grown-full true b [] h zero l = omega arith
-  grown-full true b [] h (suc k) l = absurd (omega arith)
-  grown-full true b (w ∷ ws) h zero l = omega arith
-  grown-full true b (w ∷ ws) h (suc k) l = h (suc k) l
-  grown-full false b ws h zero l = omega arith
-  grown-full false b ws h (suc k) l = h k (omega arith)
+  -- no word is empty, so one that is not there is told by its length
+  parted-full : {s : List ℕ} {ws : List (List ℕ)} → Parted blank s ws → (k : ℕ) → k < length ws → 0 < length (getD ws k [])
+  parted-full (all-blank h) k b = absurd (omega arith)
+  parted-full (next-word gap w s e g l h o p) zero b = l
+  parted-full (next-word gap w s e g l h o p) (suc k) b = parted-full p k (omega arith)
 
-  pub full : (s : List ℕ) (k : ℕ) → k < length (words blank s) → 0 < length (wordOf blank s k)
-  unfolding words
-  full [] k l = absurd (omega arith)
-  full (b ∷ s) k l = cases (blank b) (full s) l
-    where
-      cases : (t : Bool) → ((k : ℕ) → k < length (words blank s) → 0 < length (wordOf blank s k))
-          → k < length (cond t (words blank s) (grown (begins (sort false blank) s) b (words blank s)))
-          → 0 < length (getD (cond t (words blank s) (grown (begins (sort false blank) s) b (words blank s))) k [])
-      cases true f l = f k l
-      cases false f l = grown-full (begins (sort false blank) s) b (words blank s) f k l
-
-  -- so a word that is not there is told by its length
-  pub word-there : (s : List ℕ) (k : ℕ) → 0 < length (wordOf blank s k) → k < length (words blank s)
-  word-there s k h = elim (decLt k (length (words blank s))) [
-    | yes l ↦ l
-    | no l ↦ absurd (omega (arith, ap length (List·getD-eq-default (words blank s) [] {n = k} (omega arith))))
-  ]
-
-  pub word-missing : (s : List ℕ) (k : ℕ) → length (wordOf blank s k) ≡ 0 → length (words blank s) ≤ k
-  word-missing s k h = elim (decLt k (length (words blank s))) [
-    | yes l ↦ absurd (omega (arith, full s k l))
-    | no l ↦ omega arith
+  pub word-there : (s : List ℕ) (k : ℕ) → not (eqb (length (wordOf blank s k)) 0) ≡ ltb k (length (words blank s))
+  word-there s k = elim (decLt k (length (words blank s))) [
+    | yes l ↦ let h = parted-full (is-parted s) k l in rw (lt-ltb k _ l, ne-eqb (length (wordOf blank s k)) 0 (λ e. omega arith))
+    | no l ↦ rw (le-ltb k (length (words blank s)) (omega arith), List·getD-eq-default (words blank s) [] {n = k} (omega arith))
   ]

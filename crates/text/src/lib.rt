@@ -2,15 +2,17 @@ ghost use mathlib.Core.Path.{_≡_};
 ghost use mathlib.Core.Bool.{true, false};
 ghost use mathlib.Core.List.{[], _∷_};
 ghost use Prim.Native.Nat.{_+_, _≤_, _<_, min};
+ghost use lib.Dec.{ltb};
 ghost use lib.IntN.{natAbs};
 ghost use lib.ListN.{length};
 ghost use lib.Seq.{sets};
 ghost use Rattle.text.specs.Runs.{among, sort, each};
-ghost use Rattle.text.specs.Words.{wordOf};
+ghost use Rattle.text.specs.Words.{words, wordOf, isBlank};
 ghost use Rattle.text.specs.Scan.{pastOf, nextOf, nthOf};
-ghost use Rattle.text.specs.Number.{isDigit, areDigits, hasMinus, decimal, most, kept, readDigits, readOf};
+ghost use Rattle.text.specs.Number.{isDigit, areDigits, hasMinus, decimal};
+ghost use Rattle.text.specs.Reading.{most, kept, readDigits, readOf};
 ghost use Rattle.text.specs.Shown.{digit, digits, shown};
-ghost use Rattle.text.specs.Line.{after, lineOf, lineIn};
+ghost use Rattle.text.specs.Line.{after, lineOf, room, lineIn};
 
 // The blank and the newline: what parts the words of the programs' input.
 pub const BLANKS: [u8; 2] = [32, 10];
@@ -79,6 +81,13 @@ pub fn word<'a>(text: &'a [u8], set: &[u8], k: usize) -> &'a [u8]
     let start = at.start;
     let end = at.end;
     &text[start..end]
+}
+
+// Whether the programs' input has a word number k.
+pub fn has_word(text: &[u8], k: usize) -> bool
+    ensures { λ r. ⌜ r ≡ ltb k (length (words isBlank (now (text .entry)))) ⌝ }
+{
+    word(text, &BLANKS, k).len() != 0
 }
 
 // What reading a word as a number finds.
@@ -177,6 +186,13 @@ pub fn number(word: &[u8]) -> Read
     read_digits(false, word)
 }
 
+// Word number k of the programs' input, read as a number; one that is missing is malformed.
+pub fn number_at(text: &[u8], k: usize) -> Read
+    ensures { λ r. ⌜ r ≡ readOf (wordOf isBlank (now (text .entry)) k) ⌝ }
+{
+    number(word(text, &BLANKS, k))
+}
+
 // A number without its sign: that of the least number fits too.
 fn magnitude(z: i64) -> u64
     ensures { λ r. ⌜ r ≡ natAbs z ⌝ }
@@ -248,18 +264,21 @@ pub fn put_line(buf: &mut [u8], at: usize, numbers: &[i64]) -> usize
     end
 }
 
-// A line: its bytes are the first `len`, and the others are 0. It has room for seven numbers of 20 bytes, each with a byte after it.
+// Room for seven numbers of 20 bytes, each with a byte after it.
+pub const ROOM: usize = 147;
+
+// A line: its bytes are the first `len`, and the others are 0.
 pub struct Line {
-    pub bytes: [u8; 147],
+    pub bytes: [u8; ROOM],
     pub len: usize,
 }
 
 // A line of numbers that has room.
 pub fn line_of(numbers: &[i64]) -> Line
-    requires { ⌜ length (lineOf (now numbers)) ≤ 147 ⌝ }
+    requires { ⌜ length (lineOf (now numbers)) ≤ room ⌝ }
     ensures { λ r. ⌜ r ≡ lineIn (now (numbers .entry)) ⌝ }
 {
-    let mut bytes = [0u8; 147];
+    let mut bytes = [0u8; ROOM];
     let len = put_line(&mut bytes, 0, numbers);
     Line { bytes, len }
 }

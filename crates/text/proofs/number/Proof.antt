@@ -6,7 +6,8 @@ use native.Mathlib.Omega.{arith}
 use Prim.Native.Nat.{_-_, _≤_}
 use lib.ListN.{length, take, drop, length-drop}
 use lib.Seq.{take-all}
-use Rattle.text.specs.Number.{hasMinus, readDigits, minus-some, read-minus, read-plain}
+use Rattle.text.specs.Number.{hasMinus}
+use Rattle.text.specs.Reading.{readDigits, minus-some, read-minus, read-plain}
 use Rattle.text.proofs.number.Statement.{statement}
 use Rattle.text.proofs.number.Tie as tie
 

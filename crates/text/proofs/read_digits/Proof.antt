@@ -13,7 +13,8 @@ use mir.Val.{SFits, toZ}
 use mir.Facts.{toZ-pos, toZ-ofZ}
 use Rattle.whole.specs.Bounds.{within-neg, within-fits}
 use Rattle.text.specs.Runs.{each, both}
-use Rattle.text.specs.Number.{isDigit, areDigits, most}
+use Rattle.text.specs.Number.{isDigit, areDigits}
+use Rattle.text.specs.Reading.{most}
 use Rattle.text.proofs.read_digits.Statement.{statement}
 use Rattle.text.proofs.read_digits.Tie as tie
 

@@ -7,7 +7,8 @@ use Prim.Native.Nat.{_+_, _-_, _*_, _≤_, min}
 use lib.Dec.{leb}
 use lib.ListN.{length, getD, drop}
 use Rattle.text.specs.Runs.{each-at, both, drop-next, drop-end}
-use Rattle.text.specs.Number.{isDigit, decimal, most, kept, kept-decimal}
+use Rattle.text.specs.Number.{isDigit, decimal}
+use Rattle.text.specs.Reading.{most, kept-decimal}
 use Rattle.text.proofs.size.Statement.{statement}
 use Rattle.text.proofs.size.Tie as tie
 
