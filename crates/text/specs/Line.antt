@@ -1,8 +1,8 @@
 -- "It prints one line: number and three places, in decimal, single spaces, newline." Assumes nothing.
 use mathlib.Core.Path.{_≡_, refl, sym, _∙_, ap}
-use mathlib.Core.Bool.{Bool, true, false, not}
+use mathlib.Core.Bool.{true}
 use mathlib.Core.List.{List, [], _∷_, _++_, map}
-use Prim.Native.Nat.{ℕ, zero, suc, zero-le, _+_, _-_, _*_, _≤_, _<_}
+use Prim.Native.Nat.{ℕ, zero, suc, zero-le, min, _+_, _-_, _*_, _^_, _≤_, _<_}
 use native.Mathlib.Numerals.{add-one}
 use native.Mathlib.Omega.{arith}
 use lib.Dec.{leb}
@@ -13,7 +13,7 @@ use mir.Syntax.{w64}
 use mir.Val.{SFits}
 use borrow.Author.Tests.{leb-true, ne-eqb}
 use Rattle.text.specs.Stores.{sets-append}
-use Rattle.text.specs.Runs.{among, other, begins, each, both, each-cons, drop-next, drop-end}
+use Rattle.text.specs.Runs.{among, other, each, both, each-cons, drop-next, drop-end}
 use Rattle.text.specs.Number.{isDigit}
 use Rattle.text.specs.Shown.{shown, digits, each-digit, some-digit, few-bytes}
 use Rattle.text.specs.Words.{isBlank, words, words-word, words-gap}
@@ -34,6 +34,13 @@ room = 147
 
 abbrev pub lineIn : List ℤ → Line
 lineIn zs = record { bytes = sets (replicate room 0) 0 (lineOf zs); len = length (lineOf zs) }
+
+-- a place or a count as such a number
+abbrev pub numberOf : ℕ → ℤ
+numberOf n = pos (min n 9223372036854775807)
+
+pub number-of : (n : ℕ) → n < 2 ^ 63 → numberOf n ≡ pos n
+number-of n h = ap pos (omega arith)
 
 -- ---- its words are the numbers
 

@@ -1,14 +1,14 @@
 -- `text::put_line` meets its contract. Assumes nothing.
 use borrow.Author.Needs.{needs}
-use mathlib.Core.Path.{_≡_, refl, sym, _∙_, ap}
-use Prim.Native.Nat.{ℕ, _+_, _-_, _<_}
+use mathlib.Core.Path.{_≡_}
+use Prim.Native.Nat.{_+_, _-_, _<_}
 use native.Mathlib.Omega.{arith}
 use lib.IntN.{pos}
 use lib.ListN.{length, getD}
 use lib.Seq.{sets}
 use mir.Facts.{toZ-ofZ}
 use Rattle.text.specs.Shown.{shown}
-use Rattle.text.specs.Line.{after, lineOf, Storing, storing-0, storing-room, storing-more, storing-all}
+use Rattle.text.specs.Line.{after, Storing, storing-0, storing-room, storing-more, storing-all}
 use Rattle.text.proofs.put_line.Statement.{statement}
 use Rattle.text.proofs.put_line.Tie as tie
 
