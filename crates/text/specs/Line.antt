@@ -1,29 +1,29 @@
 -- "It prints one line: number and three places, in decimal, single spaces, newline." Assumes nothing.
 use mathlib.Core.Path.{_≡_, refl, sym, _∙_, ap}
-use mathlib.Core.Bool.{Bool, true, false, not}
+use mathlib.Core.Bool.{true}
 use mathlib.Core.List.{List, [], _∷_, _++_, map}
-use Prim.Native.Nat.{ℕ, zero, suc, zero-le, _+_, _-_, _*_, _≤_, _<_}
+use Prim.Native.Nat.{ℕ, zero, suc, zero-le, min, _+_, _-_, _*_, _^_, _≤_, _<_}
 use native.Mathlib.Numerals.{add-one}
 use native.Mathlib.Omega.{arith}
-use lib.Dec.{leb}
 use lib.IntN.{ℤ, pos, negsuc}
 use lib.ListN.{length, getD, take, drop, set, replicate, length-append, length-drop, length-set, length-replicate}
 use lib.Seq.{sets, sets-eq, length-sets, take-at}
 use mir.Syntax.{w64}
 use mir.Val.{SFits}
-use borrow.Author.Tests.{leb-true, ne-eqb}
+use borrow.Author.Tests.{ne-eqb}
 use Rattle.text.specs.Stores.{sets-append}
-use Rattle.text.specs.Runs.{among, other, begins, each, both, each-cons, drop-next, drop-end}
-use Rattle.text.specs.Number.{isDigit}
+use Rattle.text.specs.Runs.{among, other, each, each-cons, drop-next, drop-end}
+use Rattle.text.specs.Number.{isDigit, digit-range}
 use Rattle.text.specs.Shown.{shown, digits, each-digit, some-digit, few-bytes}
 use Rattle.text.specs.Words.{isBlank, words, words-word, words-gap}
 use Rattle.text.specs.declared.Line.{Line}
 
--- after a number that others follow comes a blank, after the last one a newline
+-- byte 32, a blank, after a number that others follow, and byte 10, a newline, after the last one
 abbrev pub after : ℕ → ℕ
 after zero = 10
 after (suc n) = 32
 
+-- each number in decimal, and the byte after it
 unfoldable pub lineOf : List ℤ → List ℕ
 lineOf [] = []
 lineOf (z ∷ zs) = shown z ++ (after (length zs) ∷ lineOf zs)
@@ -35,6 +35,13 @@ room = 147
 abbrev pub lineIn : List ℤ → Line
 lineIn zs = record { bytes = sets (replicate room 0) 0 (lineOf zs); len = length (lineOf zs) }
 
+-- a place or a count as such a number
+abbrev pub numberOf : ℕ → ℤ
+numberOf n = pos (min n 9223372036854775807)
+
+pub number-of : (n : ℕ) → n < 2 ^ 63 → numberOf n ≡ pos n
+number-of n h = ap pos (omega arith)
+
 -- ---- its words are the numbers
 
 no-blank : (s : List ℕ) → each isDigit s ≡ true → each (other isBlank) s ≡ true
@@ -42,7 +49,7 @@ unfolding each among
 no-blank [] h = refl
 no-blank (b ∷ s) h =
     let e = each-cons isDigit b s h in
-    let l : 48 ≤ b = leb-true 48 b (both (leb 48 b) (leb b 57) (e .0) .0) in
+    let l = digit-range b (e .0) in
     rw (ne-eqb 32 b (λ q. omega arith), ne-eqb 10 b (λ q. omega arith)) (no-blank s (e .1))
 
 shown-some : (z : ℤ) → 0 < length (shown z)
@@ -68,6 +75,7 @@ words-line (z ∷ zs) =
 
 -- ---- its length
 
+-- numbers of 64 bits
 abbrev pub Each64 : List ℤ → Type 0
 Each64 [] = Unit {0}
 Each64 (z ∷ zs) = SFits w64 z × Each64 zs
@@ -84,7 +92,9 @@ line-bytes zs h =
     let e : 0 + length (lineOf zs) ≡ length (lineOf zs) = omega arith in
     rw (sets-eq (lineOf zs) (replicate room 0) 0 (rw (e, length-replicate {A = ℕ} room 0) h)) (take-at (lineOf zs) (drop (0 + length (lineOf zs)) (replicate room 0)) (length (lineOf zs)) refl)
 
--- ---- a loop that stores it: from `end` on the numbers from i on are left
+-- ---- a loop that stores it
+
+-- from `end` on the numbers from i on are left
 
 pub record Storing (zs : List ℤ) (old : List ℕ) (at : ℕ) (new : List ℕ) (end i : ℕ) : Type 0 where
   pub turn : i ≤ length zs

@@ -10,6 +10,7 @@ use lib.ListN.{length, getD}
 use borrow.Author.Tests.{leb-true, le-leb, eqb-true, ne-eqb}
 use Rattle.text.specs.Runs.{each, both, each-cons, each-at, each-all}
 
+-- Byte 45 is the minus sign, and bytes 48 to 57 are the digits.
 -- "an optional minus sign": whether it is there, and what follows it
 abbrev pub hasMinus : List ℕ → Bool
 hasMinus [] = false
@@ -57,11 +58,14 @@ pub record IsNumber (word : List ℕ) : Type 0 where
   pub some : 1 ≤ length digits
   pub digit : (k : ℕ) → k < length digits → (48 ≤ getD digits k 0) × (getD digits k 0 ≤ 57)
 
+pub digit-range : (b : ℕ) → isDigit b ≡ true → (48 ≤ b) × (b ≤ 57)
+digit-range b h = let t = both (leb 48 b) (leb b 57) h in (leb-true 48 b (t .0), leb-true b 57 (t .1))
+
 -- digits begin with no minus sign
 pub no-minus : (s : List ℕ) → each isDigit s ≡ true → (hasMinus s ≡ false) × (unsigned s ≡ s)
 no-minus [] h = (refl, refl)
 no-minus (b ∷ s) h =
-    let l = leb-true 48 b (both (leb 48 b) (leb b 57) (each-cons isDigit b s h .0) .0) in
+    let l = digit-range b (each-cons isDigit b s h .0) in
     rw (ne-eqb b 45 (λ e. omega arith)) (refl, refl)
 
 -- each digit counts for ten times as much as the next
@@ -79,10 +83,7 @@ spelled sign digits s h =
       is = refl;
       optional = s;
       some = leb-true 1 (length digits) (d .0);
-      digit = λ k l.
-          let b = getD digits k 0 in
-          let t = both (leb 48 b) (leb b 57) (each-at isDigit digits k (d .1) l) in
-          (leb-true 48 b (t .0), leb-true b 57 (t .1));
+      digit = λ k l. digit-range (getD digits k 0) (each-at isDigit digits k (d .1) l);
     }
 
 pub number-is : (word : List ℕ) → isNumber word ≡ true → IsNumber word

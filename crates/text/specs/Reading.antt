@@ -11,7 +11,7 @@ use lib.ListN.{length, drop}
 use lib.Signed.{ltZ}
 use borrow.Author.Tests.{lt-ltb, le-ltb}
 use Rattle.whole.specs.Bounds.{_within_, abs-neg}
-use Rattle.text.specs.Number.{hasMinus, unsigned, areDigits, isNumber, decimal, signed, value}
+use Rattle.text.specs.Number.{hasMinus, areDigits, isNumber, decimal, signed, value}
 use Rattle.text.specs.declared.Read.{Read}
 use Rattle.text.specs.declared.Read.the-variants.{Number, Malformed}
 

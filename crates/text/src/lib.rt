@@ -12,10 +12,10 @@ ghost use Rattle.text.specs.Scan.{pastOf, nextOf, nthOf};
 ghost use Rattle.text.specs.Number.{isDigit, areDigits, hasMinus, decimal};
 ghost use Rattle.text.specs.Reading.{most, kept, readDigits, readOf};
 ghost use Rattle.text.specs.Shown.{digit, digits, shown};
-ghost use Rattle.text.specs.Line.{after, lineOf, room, lineIn};
+ghost use Rattle.text.specs.Line.{after, lineOf, room, lineIn, numberOf};
 
-// The blank and the newline: what parts the words of the programs' input.
-pub const BLANKS: [u8; 2] = [32, 10];
+// What parts the words of the programs' input.
+pub const BLANKS: [u8; 2] = [b' ', b'\n'];
 
 // Whether b is one of the bytes of a set.
 fn among(set: &[u8], b: u8) -> bool
@@ -61,7 +61,7 @@ pub fn next(text: &[u8], set: &[u8], at: usize) -> Part
 }
 
 // Where word number k stands, counted from 0.
-pub fn nth(text: &[u8], set: &[u8], k: usize) -> Part
+fn nth(text: &[u8], set: &[u8], k: usize) -> Part
     ensures { λ r. ⌜ r ≡ nthOf (among (now (set .entry))) (now (text .entry)) k ⌝ }
 {
     let mut at = next(text, set, 0);
@@ -100,10 +100,10 @@ pub enum Read {
 fn is_digit(b: u8) -> bool
     ensures { λ r. ⌜ r ≡ isDigit b ⌝ }
 {
-    if b < 48 {
+    if b < b'0' {
         return false;
     }
-    b <= 57
+    b <= b'9'
 }
 
 // Whether bytes are one or more digits.
@@ -131,7 +131,7 @@ fn more(n: u64, b: u8) -> u64
     requires { ⌜ (n ≤ most) × (48 ≤ b) ⌝ }
     ensures { λ r. ⌜ r ≡ kept n b ⌝ }
 {
-    let m = n * 10 + (b - 48) as u64;
+    let m = n * 10 + (b - b'0') as u64;
     if MOST < m {
         return MOST;
     }
@@ -173,7 +173,7 @@ fn has_minus(word: &[u8]) -> bool
     if word.len() == 0 {
         return false;
     }
-    word[0] == 45
+    word[0] == b'-'
 }
 
 // A word read as a number.
@@ -208,7 +208,7 @@ fn digit(n: u64) -> u8
     requires { ⌜ n < 10 ⌝ }
     ensures { λ r. ⌜ r ≡ digit n ⌝ }
 {
-    48 + n as u8
+    b'0' + n as u8
 }
 
 // The digits of n, stored from `at` on; the place after them.
@@ -231,7 +231,7 @@ pub fn put_number(buf: &mut [u8], at: usize, z: i64) -> usize
     ensures { λ r. ⌜ (r ≡ at + length (shown z)) × (now (buf .exit) ≡ sets (now (buf .entry)) at (shown z)) ⌝ }
 {
     if z < 0 {
-        buf[at] = 45;
+        buf[at] = b'-';
         return put_digits(buf, at + 1, magnitude(z));
     }
     put_digits(buf, at, magnitude(z))
@@ -242,9 +242,9 @@ fn after(others: usize) -> u8
     ensures { λ r. ⌜ r ≡ after others ⌝ }
 {
     if others == 0 {
-        return 10;
+        return b'\n';
     }
-    32
+    b' '
 }
 
 // A line of numbers, stored from `at` on; the place after it.
@@ -281,6 +281,16 @@ pub fn line_of(numbers: &[i64]) -> Line
     let mut bytes = [0u8; ROOM];
     let len = put_line(&mut bytes, 0, numbers);
     Line { bytes, len }
+}
+
+// A place or a count as a number to print; none is so large that it is not itself.
+pub fn number_of(n: usize) -> i64
+    ensures { λ r. ⌜ r ≡ numberOf n ⌝ }
+{
+    if 9_223_372_036_854_775_807 < n {
+        return 9_223_372_036_854_775_807;
+    }
+    n as i64
 }
 
 // "number and three places, in decimal, single spaces, newline"

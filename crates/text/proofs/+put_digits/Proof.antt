@@ -1,8 +1,7 @@
 -- `text::put_digits` meets its contract. The measure is n: its tenth is less. Assumes nothing.
 use borrow.Author.Needs.{needs}
-use mathlib.Core.Path.{_≡_, refl, sym, _∙_}
 use mathlib.Core.List.{[], _∷_}
-use Prim.Native.Nat.{ℕ, _+_, _/_, _%_, _≤_, _<_}
+use Prim.Native.Nat.{ℕ, _/_, _%_, _≤_, _<_}
 use native.Mathlib.Omega.{arith}
 use lib.ListN.{length, length-set}
 use borrow.Fn.Kinds.{In}
@@ -25,6 +24,13 @@ put-digits-at t = and 1 put-digits-kinds.ps (is 1 put-digits-kinds.ps μ-put-dig
 abbrev put-digits-below : ℕ → In 1 put-digits-kinds.ps
 put-digits-below t = and 1 put-digits-kinds.ps (falls 1 put-digits-kinds.ps _<_ μ-put-digits t) put-digits.Pre
 
+-- the last digit has room after the others
+module _ (t : ℕ) (c : put-digits-lts.After-digit2 (digit-reads.Asked, digit-reads.Learnt, put-digits-below t, put-digits.Post) (put-digits-at t) put-digits.Post) where
+  room : c .before .before .before .put-digits .result < length (c .before .before .before .put-digits .last .0)
+  room =
+      let p = c .before .before .before .put-digits in
+      omega (arith, p .ensures .0, p .kept .0, length-digits (c .before .before .before .before .before .before .before .args .n) (search needs))
+
 pub +put-digits-spec : {M : Type 1} → statement M
 +put-digits-spec = close μ-put-digits λ t. put-digits-lts.spec (digit-reads.Asked, digit-reads.Learnt, put-digits-below t, put-digits.Post)
     (put-digits-at t)
@@ -36,12 +42,8 @@ pub +put-digits-spec : {M : Type 1} → statement M
     (λ c. (omega (arith, length-digit (c .before .before .before .args .n) (search needs)), rw (digit-is (c .before .before .before .args .n) (search needs), c .digit .ensures)))
     (λ c κs. (omega arith, omega (arith, length-digits (c .before .before .before .args .n) (search needs))))
     (λ c κs. search needs)
-    (λ c.
-    let p = c .before .before .before .put-digits in
-    omega (arith, p .ensures .0, p .kept .0, length-digits (c .before .before .before .before .before .before .before .args .n) (search needs)))
-    (λ c.
-    let p = c .before .before .before .put-digits in
-    omega (arith, p .ensures .0, p .kept .0, length-digits (c .before .before .before .before .before .before .before .args .n) (search needs)))
+    (room t)
+    (λ c. let r = room t c in search needs)
     (λ c. simp length-set (c .before .before .before .put-digits .kept .0))
     (λ c.
     let p = c .before .before .before .put-digits in

@@ -1,7 +1,7 @@
 -- `text::among` meets its contract. The loop's invariant: b is in the set where it is among the bytes that are left. Assumes nothing.
 use borrow.Author.Needs.{needs}
 use borrow.Author.Tests.{eq-eqb, ne-eqb}
-use mathlib.Core.Path.{_≡_, refl, sym, _∙_}
+use mathlib.Core.Path.{_≡_, refl}
 use Prim.Native.Nat.{_-_, _≤_}
 use lib.ListN.{length, drop}
 use Rattle.text.specs.Runs.{among, drop-next, drop-end}

@@ -1,10 +1,9 @@
 -- `text::line4` meets its contract. Assumes nothing.
 use borrow.Author.Needs.{needs}
-use mathlib.Core.Path.{_∙_}
 use mathlib.Core.List.{[], _∷_}
 use native.Mathlib.Omega.{arith}
 use mir.Facts.{toZ-ofZ}
-use Rattle.text.specs.Line.{lineOf, few-line}
+use Rattle.text.specs.Line.{few-line}
 use Rattle.text.proofs.line4.Statement.{statement}
 use Rattle.text.proofs.line4.Tie as tie
 

@@ -1,9 +1,8 @@
 -- `text::past` meets its contract. The loop's invariant: the run from `at` ends where that from i does. Assumes nothing.
 use borrow.Author.Needs.{needs}
 use mathlib.Core.Path.{_≡_, refl, sym, _∙_}
-use mathlib.Core.Bool.{true, false}
 use Prim.Native.Nat.{_-_}
-use lib.ListN.{length, getD}
+use lib.ListN.{length}
 use Rattle.text.specs.Runs.{among, sort, unlike, alike}
 use Rattle.text.specs.Scan.{pastOf, past-stop, past-more, past-end}
 use Rattle.text.proofs.past.Statement.{statement}

@@ -1,6 +1,7 @@
--- `text::put_line` meets its contract. Assumes nothing.
+-- `text::put_line` meets its contract. The loop's invariant: what is left, stored from `end` on, makes the line. Assumes nothing.
 use borrow.Author.Needs.{needs}
-use mathlib.Core.Path.{_≡_, refl, sym, _∙_, ap}
+use mathlib.Core.Path.{_≡_}
+use mathlib.Core.List.{List}
 use Prim.Native.Nat.{ℕ, _+_, _-_, _<_}
 use native.Mathlib.Omega.{arith}
 use lib.IntN.{pos}
@@ -8,7 +9,7 @@ use lib.ListN.{length, getD}
 use lib.Seq.{sets}
 use mir.Facts.{toZ-ofZ}
 use Rattle.text.specs.Shown.{shown}
-use Rattle.text.specs.Line.{after, lineOf, Storing, storing-0, storing-room, storing-more, storing-all}
+use Rattle.text.specs.Line.{after, Storing, storing-0, storing-room, storing-more, storing-all}
 use Rattle.text.proofs.put_line.Statement.{statement}
 use Rattle.text.proofs.put_line.Tie as tie
 
@@ -24,9 +25,12 @@ put-number-requires c κs =
     rw (toZ-ofZ (record { sfits = c .put-number-arg2 .given })) (omega (arith, storing-room (l .loop .inv) (search needs), l .loop .inv .long, l .before .before .pre))
 
 -- number i has been stored, and the byte after it has room
+abbrev text : tie.After-put-number Inv-loop μ-loop → List ℕ
+text c = shown (getD (c .before .before .before .before .before .before .args .numbers .now) (c .before .before .before .before .loop .i) (pos 0))
+
 module _ (c : tie.After-put-number Inv-loop μ-loop) where
-  stored : (c .put-number .result ≡ c .before .before .before .before .loop .end + length (shown (getD (c .before .before .before .before .before .before .args .numbers .now) (c .before .before .before .before .loop .i) (pos 0))))
-      × (c .put-number .last .0 ≡ sets (c .before .before .before .before .loop .buf) (c .before .before .before .before .loop .end) (shown (getD (c .before .before .before .before .before .before .args .numbers .now) (c .before .before .before .before .loop .i) (pos 0))))
+  stored : (c .put-number .result ≡ c .before .before .before .before .loop .end + length (text c))
+      × (c .put-number .last .0 ≡ sets (c .before .before .before .before .loop .buf) (c .before .before .before .before .loop .end) (text c))
   stored = rw (toZ-ofZ (record { sfits = c .before .put-number-arg2 .given })) at (c .put-number .ensures)
 
   room : c .put-number .result < length (c .put-number .last .0)

@@ -1,13 +1,11 @@
 -- `text::size` meets its contract. The loop's invariant: the digits that are left, after the value so far, make the value. Assumes nothing.
 use borrow.Author.Needs.{needs}
-use borrow.Author.Tests.{leb-true}
 use native.Mathlib.Omega.{arith}
-use mathlib.Core.Path.{_≡_, refl, sym, _∙_}
+use mathlib.Core.Path.{_≡_, refl, _∙_}
 use Prim.Native.Nat.{_+_, _-_, _*_, _≤_, min}
-use lib.Dec.{leb}
 use lib.ListN.{length, getD, drop}
-use Rattle.text.specs.Runs.{each-at, both, drop-next, drop-end}
-use Rattle.text.specs.Number.{isDigit, decimal}
+use Rattle.text.specs.Runs.{each-at, drop-next, drop-end}
+use Rattle.text.specs.Number.{isDigit, digit-range, decimal}
 use Rattle.text.specs.Reading.{most, kept-decimal}
 use Rattle.text.proofs.size.Statement.{statement}
 use Rattle.text.proofs.size.Tie as tie
@@ -21,8 +19,8 @@ abbrev μ-loop : tie.MeasureT-loop
 more-requires : tie.Need-more-requires Inv-loop μ-loop
 more-requires c κs =
     let l = c .before .before in
-    let b = getD (l .before .before .args .s .now) (l .loop .i) 0 in
-    (search needs, leb-true 48 b (both (leb 48 b) (leb b 57) (each-at isDigit (l .before .before .args .s .now) (l .loop .i) (l .before .before .pre) (search needs)) .0))
+    let s = l .before .before .args .s .now in
+    (search needs, digit-range (getD s (l .loop .i) 0) (each-at isDigit s (l .loop .i) (l .before .before .pre) (search needs)) .0)
 
 loop-again : tie.Need-loop-again Inv-loop μ-loop
 unfolding decimal
