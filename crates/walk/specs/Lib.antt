@@ -4,3 +4,6 @@ pub mod Step
 pub mod Best
 pub mod Ready
 pub mod Stepped
+pub mod Course
+pub mod Rise
+pub mod Climb

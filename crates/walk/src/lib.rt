@@ -9,6 +9,8 @@ ghost use Rattle.walk.specs.Direction.{direction, axes, steepest, isStee
 ghost use Rattle.walk.specs.Step.{spot, begin, step};
 ghost use Rattle.walk.specs.Best.{better, Placed, Best};
 ghost use Rattle.walk.specs.Ready.{Ready, Stands};
+ghost use Rattle.walk.specs.Course.{finish, trailed};
+ghost use Rattle.walk.specs.Climb.{Climbs};
 
 // A direction of three whole numbers.
 pub struct Direction {
@@ -208,4 +210,33 @@ impl Standing {
         }
         self
     }
+}
+
+// Walks until no neighbour is strictly higher, and lists the vertices stood on.
+fn climb(
+    points: &[i32],
+    corners: &[u16],
+    begins: &[u16],
+    ends: &[u16; 6144],
+    last: &[u16; 1024],
+    back: &[u16; 6144],
+    direction: Direction,
+    start: u16,
+    trail: &mut [u16],
+) -> Standing
+    requires { ⌜ Climbs (now points) (now corners) (now begins) (now ends) (now last) (now back) direction start (now trail) ⌝ }
+    ensures { λ r. ⌜ r ≡ finish (now (points .entry)) (now (corners .entry)) (now (begins .entry)) direction start ⌝ }
+    ensures { λ r. ⌜ now (trail .exit) ≡ trailed (now (points .entry)) (now (corners .entry)) (now (begins .entry)) direction start (now (trail .entry)) ⌝ }
+{
+    let mut here = Standing::begin(points, direction, start);
+    trail[0] = start;
+    let mut next = here.step(points, corners, begins, ends, last, back, direction);
+    while here.moves < next.moves {
+        here = next;
+        let moves = here.moves;
+        let spot = here.spot;
+        trail[moves] = spot.vertex;
+        next = here.step(points, corners, begins, ends, last, back, direction);
+    }
+    here
 }
