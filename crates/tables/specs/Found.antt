@@ -85,6 +85,21 @@ sought n sizes test = go (anyBelow some n) refl
         })
     go false e = place-none (λ f p l. none f (never some n (ltb-false _ _ e) f l) p)
 
+-- a search that found nothing
+pub lowest-none : (n : ℕ) (test : ℕ → Bool) → lowest n test ≡ Nothing → Nowhere n test
+lowest-none n test = go (searched n test)
+  where
+    go : {r : Found} → Searched n test r → r ≡ Nothing → Nowhere n test
+    go (found-at h) e = let z : _≡_ {A = ℕ} 0 1 = cc in absurd (omega arith)
+    go (found-none h) e = h
+
+pub first-none : (n : ℕ) (sizes : ℕ → ℕ) (test : ℕ → ℕ → Bool) → firstPlace n sizes test ≡ Nothing → NoPlace n sizes test
+first-none n sizes test = go (sought n sizes test)
+  where
+    go : {r : Found} → Sought n sizes test r → r ≡ Nothing → NoPlace n sizes test
+    go (place-at h) e = let z : _≡_ {A = ℕ} 0 1 = cc in absurd (omega arith)
+    go (place-none h) e = h
+
 -- and the other way: no two answers fit
 pub lowest-is : {n : ℕ} {test : ℕ → Bool} {v : ℕ} → Lowest n test v → lowest n test ≡ At v 0
 lowest-is {n} {test} {v} h = sym (hit (λ u. At u 0) Nothing (none-all test v (h .before)) (h .applies) (h .below))

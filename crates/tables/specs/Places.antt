@@ -142,6 +142,17 @@ module _ {corners begins : List ℕ} (L : Laid corners begins) {f p : ℕ} (i : 
   pub in-facet : p < length corners
   in-facet = in-run L i
 
+-- three sides or more
+pub next-next-not : {corners begins : List ℕ} {p : ℕ} → Laid corners begins → p < length corners → nextOf begins (nextOf begins p) ≡ p → ⊥
+next-next-not {begins = begins} {p = p} L l e =
+    let i = home L l in
+    let r = L .rise (homeOf begins p) (i .facet) in
+    let g : Goes begins (homeOf begins p) (nextOf begins p) (nextOf begins (nextOf begins p)) = rw (← next-home L l) (goes begins (nextOf begins p)) in
+    elim (goes begins p) [
+      | wraps a b ↦ elim g [ wraps c d ↦ omega arith | on c d ↦ omega arith ]
+      | on a b ↦ elim g [ wraps c d ↦ omega arith | on c d ↦ omega arith ]
+    ]
+
 -- ---- a facet's part, and its positions as places
 
 module _ {corners begins : List ℕ} (L : Laid corners begins) {f : ℕ} (l : f < facets begins) where

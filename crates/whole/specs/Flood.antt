@@ -1,86 +1,85 @@
--- Flooding by a queue and marks: the places reached from 0 by two kinds of steps, s and t. Assumes nothing.
+-- Flooding by a queue and marks: what is reached from 0 by arcs, n of them, from a p to b p, among m. Assumes nothing.
 use mathlib.Core.Path.{_≡_, refl, sym, ap, _∙_}
 use mathlib.Core.Bool.{Bool, true, false, cond, not, _&&_, and-true, true≢false}
 use mathlib.Core.List.{List}
 use Prim.Native.Nat.{ℕ, zero, suc, _+_, _-_, _≤_, _<_}
 use native.Mathlib.Omega.{arith}
 use native.Mathlib.Decide.{ℕ-discrete}
-use lib.Dec.{eqb, ltb}
-use lib.ListN.{length, getD, set, length-set, replicate, length-replicate, getD-replicate}
+use lib.Dec.{eqb}
+use lib.ListN.{length, getD, set, length-set, replicate, length-replicate}
 use lib.Seq.{getD-set-same, getD-set-other}
 use borrow.Author.Tests.{eqb-true, eqb-false, eq-eqb, ne-eqb}
 use Rattle.whole.specs.Count.{countBelow, count-but, count-le, but, same-bits, gap}
-
--- reached from 0
-pub data Reach (s t : ℕ → ℕ) : ℕ → Type 0 where
-  here : Reach s t 0
-  by-s : {p : ℕ} → Reach s t p → Reach s t (s p)
-  by-t : {p : ℕ} → Reach s t p → Reach s t (t p)
+use Rattle.whole.specs.Filled.{blank}
+use Rattle.whole.specs.Rounds.{Reached, first, arc}
 
 abbrev pub marked : List ℕ → ℕ → Bool
-marked mark p = not (eqb (getD mark p 0) 0)
+marked mark g = not (eqb (getD mark g 0) 0)
 
--- the queue's first `tail` entries are the marked places, and all are reached
-pub record Queue (size n : ℕ) (s t : ℕ → ℕ) (mark queue : List ℕ) (tail : ℕ) : Type 0 where
+-- the queue's first `tail` entries are the marked ones of m, and all are reached
+pub record Queue (size m : ℕ) (R : ℕ → Type 0) (mark queue : List ℕ) (tail : ℕ) : Type 0 where
   pub marks : length mark ≡ size
   pub room : length queue ≡ size
-  pub count : countBelow (marked mark) n ≡ tail
-  pub below : (i : ℕ) → i < tail → getD queue i 0 < n
-  pub reach : (i : ℕ) → i < tail → Reach s t (getD queue i 0)
-  pub listed : (p : ℕ) → p < n → marked mark p ≡ true → (i : ℕ) × (i < tail) × (getD queue i 0 ≡ p)
+  pub count : countBelow (marked mark) m ≡ tail
+  pub below : (i : ℕ) → i < tail → getD queue i 0 < m
+  pub reach : (i : ℕ) → i < tail → R (getD queue i 0)
+  pub listed : (g : ℕ) → g < m → marked mark g ≡ true → (i : ℕ) × (i < tail) × (getD queue i 0 ≡ g)
 
--- what a push leaves
+-- what pushes leave
 pub record Kept (mark queue : List ℕ) (tail : ℕ) (mark′ queue′ : List ℕ) (tail′ : ℕ) : Type 0 where
   pub more : tail ≤ tail′
   pub entry : (i : ℕ) → i < tail → getD queue′ i 0 ≡ getD queue i 0
-  pub still : (p : ℕ) → marked mark p ≡ true → marked mark′ p ≡ true
+  pub still : (g : ℕ) → marked mark g ≡ true → marked mark′ g ≡ true
 
-pub record Pushed (size n : ℕ) (s t : ℕ → ℕ) (mark queue : List ℕ) (tail : ℕ) (mark′ queue′ : List ℕ) (tail′ p : ℕ) : Type 0 where
-  pub queued : Queue size n s t mark′ queue′ tail′
+pub record Pushed (size m : ℕ) (R : ℕ → Type 0) (mark queue : List ℕ) (tail : ℕ) (mark′ queue′ : List ℕ) (tail′ g : ℕ) : Type 0 where
+  pub queued : Queue size m R mark′ queue′ tail′
   pub kept : Kept mark queue tail mark′ queue′ tail′
-  pub is : marked mark′ p ≡ true
+  pub is : marked mark′ g ≡ true
 
-module _ {size n : ℕ} {s t : ℕ → ℕ} {mark queue : List ℕ} {tail : ℕ} (Q : Queue size n s t mark queue tail) (fits : n ≤ size) where
-  pub push-old : {p : ℕ} → (getD mark p 0 ≡ 0 → ⊥) → Pushed size n s t mark queue tail mark queue tail p
-  push-old d = record {
-    queued = Q;
-    kept = record { more = omega arith; entry = λ i l. refl; still = λ p e. e };
-    is = rw (ne-eqb _ _ d);
-  }
+keep : (mark queue : List ℕ) (tail : ℕ) → Kept mark queue tail mark queue tail
+keep mark queue tail = record { more = omega arith; entry = λ i l. refl; still = λ g e. e }
 
-  module _ {p : ℕ} (l : p < n) (e : getD mark p 0 ≡ 0) where
+module _ {size m : ℕ} {R : ℕ → Type 0} {mark queue : List ℕ} {tail : ℕ} (Q : Queue size m R mark queue tail) (fits : m ≤ size) where
+  -- the queue holds different ones
+  pub tail-le : tail ≤ m
+  tail-le = omega (arith, Q .count, count-le (marked mark) m)
+
+  push-old : {g : ℕ} → (getD mark g 0 ≡ 0 → ⊥) → Pushed size m R mark queue tail mark queue tail g
+  push-old d = record { queued = Q; kept = keep mark queue tail; is = rw (ne-eqb _ _ d) }
+
+  module _ {g : ℕ} (l : g < m) (e : getD mark g 0 ≡ 0) where
     set-mark : List ℕ
-    set-mark = set mark p 1
+    set-mark = set mark g 1
 
-    is-set : marked set-mark p ≡ true
+    is-set : marked set-mark g ≡ true
     unfolding set-mark
-    is-set = rw (getD-set-same mark p 1 0 (omega (arith, Q .marks)))
+    is-set = rw (getD-set-same mark g 1 0 (omega (arith, Q .marks)))
 
-    not-set : {q : ℕ} → (q ≡ p → ⊥) → marked set-mark q ≡ marked mark q
+    not-set : {h : ℕ} → (h ≡ g → ⊥) → marked set-mark h ≡ marked mark h
     unfolding set-mark
-    not-set {q} d = rw (getD-set-other mark p q 1 0 d)
+    not-set {h} d = rw (getD-set-other mark g h 1 0 d)
 
-    one-more : countBelow (marked set-mark) n ≡ tail + 1
+    one-more : countBelow (marked set-mark) m ≡ tail + 1
     one-more =
-        let c = count-but (marked set-mark) p n l is-set in
-        let b = same-bits (but (marked set-mark) p) (marked mark) n same in
+        let c = count-but (marked set-mark) g m l is-set in
+        let b = same-bits (but (marked set-mark) g) (marked mark) m same in
         omega (arith, Q .count)
       where
-        same : (q : ℕ) → q < n → but (marked set-mark) p q ≡ marked mark q
-        same q m = elim (ℕ-discrete q p) [
-          | yes z ↦ rw (z, is-set, eq-eqb p p refl, e)
-          | no d ↦ rw (not-set d, ne-eqb q p d, and-true)
+        same : (h : ℕ) → h < m → but (marked set-mark) g h ≡ marked mark h
+        same h k = elim (ℕ-discrete h g) [
+          | yes z ↦ rw (z, is-set, eq-eqb g g refl, e)
+          | no d ↦ rw (not-set d, ne-eqb h g d, and-true)
         ]
 
-    pub some-room : tail < size
-    some-room = omega (arith, one-more, count-le (marked set-mark) n)
+    some-room : tail < size
+    some-room = omega (arith, one-more, count-le (marked set-mark) m)
 
-    pub push-new : Reach s t p → Pushed size n s t mark queue tail (set mark p 1) (set queue tail p) (tail + 1) p
+    push-new : R g → Pushed size m R mark queue tail (set mark g 1) (set queue tail g) (tail + 1) g
     unfolding set-mark
     push-new r = record {
       queued = record {
-        marks = length-set mark p 1 ∙ Q .marks;
-        room = length-set queue tail p ∙ Q .room;
+        marks = length-set mark g 1 ∙ Q .marks;
+        room = length-set queue tail g ∙ Q .room;
         count = one-more;
         below = λ i b. elim (ℕ-discrete i tail) [
           | yes z ↦ rw (z, last) l
@@ -90,125 +89,128 @@ module _ {size n : ℕ} {s t : ℕ → ℕ} {mark queue : List ℕ} {tail : ℕ}
           | yes z ↦ rw (z, last) r
           | no d ↦ rw (old d) (Q .reach i (omega arith))
         ];
-        listed = λ q m k. elim (ℕ-discrete q p) [
+        listed = λ h k x. elim (ℕ-discrete h g) [
           | yes z ↦ (tail, omega arith, last ∙ sym z)
-          | no d ↦ let (i, b, z) = Q .listed q m (sym (not-set d) ∙ k) in (i, omega arith, old (λ y. omega arith) ∙ z)
+          | no d ↦ let (i, b, z) = Q .listed h k (sym (not-set d) ∙ x) in (i, omega arith, old (λ y. omega arith) ∙ z)
         ];
       };
       kept = record {
         more = omega arith;
         entry = λ i b. old (λ y. omega arith);
-        still = λ q k. elim (ℕ-discrete q p) [ yes z ↦ rw z is-set | no d ↦ not-set d ∙ k ];
+        still = λ h x. elim (ℕ-discrete h g) [ yes z ↦ rw z is-set | no d ↦ not-set d ∙ x ];
       };
       is = is-set;
     }
       where
-        last : getD (set queue tail p) tail 0 ≡ p
-        last = getD-set-same queue tail p 0 (omega (arith, Q .room, some-room))
+        last : getD (set queue tail g) tail 0 ≡ g
+        last = getD-set-same queue tail g 0 (omega (arith, Q .room, some-room))
 
-        old : {i : ℕ} → (i ≡ tail → ⊥) → getD (set queue tail p) i 0 ≡ getD queue i 0
-        old {i} d = getD-set-other queue tail i p 0 d
+        old : {i : ℕ} → (i ≡ tail → ⊥) → getD (set queue tail g) i 0 ≡ getD queue i 0
+        old {i} d = getD-set-other queue tail i g 0 d
 
 -- ---- a push, as the code does it
 
 unfoldable pub pushMark : List ℕ → ℕ → List ℕ
-pushMark mark p = cond (eqb (getD mark p 0) 0) (set mark p 1) mark
+pushMark mark g = cond (eqb (getD mark g 0) 0) (set mark g 1) mark
 
 unfoldable pub pushQueue : List ℕ → List ℕ → ℕ → ℕ → List ℕ
-pushQueue mark queue tail p = cond (eqb (getD mark p 0) 0) (set queue tail p) queue
+pushQueue mark queue tail g = cond (eqb (getD mark g 0) 0) (set queue tail g) queue
 
 unfoldable pub pushTail : List ℕ → ℕ → ℕ → ℕ
-pushTail mark tail p = cond (eqb (getD mark p 0) 0) (tail + 1) tail
+pushTail mark tail g = cond (eqb (getD mark g 0) 0) (tail + 1) tail
 
--- what the code asks: room where p is new
-pub record Pushing (size : ℕ) (mark : List ℕ) (tail p : ℕ) : Type 0 where
-  pub place : p < size
+-- what the code asks: room where g is new
+pub record Pushing (size : ℕ) (mark : List ℕ) (tail g : ℕ) : Type 0 where
+  pub place : g < size
   pub short : tail ≤ size
-  pub room : getD mark p 0 ≡ 0 → tail < size
+  pub room : getD mark g 0 ≡ 0 → tail < size
 
-module _ {size n : ℕ} {s t : ℕ → ℕ} {mark queue : List ℕ} {tail : ℕ} (Q : Queue size n s t mark queue tail) (fits : n ≤ size) where
-  pub pushing : {p : ℕ} → p < n → Pushing size mark tail p
-  pushing l = record { place = omega arith; short = omega (arith, Q .count, count-le (marked mark) n); room = λ e. some-room Q fits l e }
+module _ {size m : ℕ} {R : ℕ → Type 0} {mark queue : List ℕ} {tail : ℕ} (Q : Queue size m R mark queue tail) (fits : m ≤ size) {g : ℕ} (l : g < m) where
+  pub pushing : Pushing size mark tail g
+  pushing = record { place = omega arith; short = omega (arith, tail-le Q fits); room = λ e. some-room Q fits l e }
 
-  pub push : {p : ℕ} → p < n → Reach s t p → Pushed size n s t mark queue tail (pushMark mark p) (pushQueue mark queue tail p) (pushTail mark tail p) p
+  pub push : {mark′ queue′ : List ℕ} {tail′ : ℕ} → R g → mark′ ≡ pushMark mark g → queue′ ≡ pushQueue mark queue tail g → tail′ ≡ pushTail mark tail g
+      → Pushed size m R mark queue tail mark′ queue′ tail′ g
   unfolding pushMark pushQueue pushTail
-  push {p} l r = go (eqb (getD mark p 0) 0) refl
+  push r x y z = rw (x, y, z) (go (eqb (getD mark g 0) 0) refl)
     where
-      go : (b : Bool) → eqb (getD mark p 0) 0 ≡ b
-          → Pushed size n s t mark queue tail (cond b (set mark p 1) mark) (cond b (set queue tail p) queue) (cond b (tail + 1) tail) p
+      go : (t : Bool) → eqb (getD mark g 0) 0 ≡ t → Pushed size m R mark queue tail (cond t (set mark g 1) mark) (cond t (set queue tail g) queue) (cond t (tail + 1) tail) g
       go true e = push-new Q fits l (eqb-true _ _ e) r
       go false e = push-old Q fits (eqb-false _ _ e)
 
-  -- the same of what a call left
-  pub push-as : {p x k : ℕ} {m q : List ℕ} → p < n → Reach s t p → x ≡ p → m ≡ pushMark mark x → q ≡ pushQueue mark queue tail x → k ≡ pushTail mark tail x
-      → Pushed size n s t mark queue tail m q k p
-  push-as l r e a b c = rw (a, b, c, e) (push l r)
+-- ---- a turn: all that b p names for p from lo to hi are pushed
 
-  -- the queue holds different places
-  pub tail-le : tail ≤ n
-  tail-le = omega (arith, Q .count, count-le (marked mark) n)
+pub record Spread (size m : ℕ) (R : ℕ → Type 0) (b : ℕ → ℕ) (lo hi : ℕ) (mark queue : List ℕ) (tail : ℕ) (mark′ queue′ : List ℕ) (tail′ : ℕ) : Type 0 where
+  pub queued : Queue size m R mark′ queue′ tail′
+  pub kept : Kept mark queue tail mark′ queue′ tail′
+  pub done : (p : ℕ) → lo ≤ p → p < hi → marked mark′ (b p) ≡ true
+
+pub spread-0 : {size m : ℕ} {R : ℕ → Type 0} {mark queue : List ℕ} {tail : ℕ} (b : ℕ → ℕ) (lo : ℕ) → Queue size m R mark queue tail
+    → Spread size m R b lo lo mark queue tail mark queue tail
+spread-0 {mark} {queue} {tail} b lo Q = record { queued = Q; kept = keep mark queue tail; done = λ p l k. absurd (omega arith) }
+
+pub spread-more : {size m : ℕ} {R : ℕ → Type 0} {b : ℕ → ℕ} {lo p : ℕ} {mark queue mark′ queue′ mark″ queue″ : List ℕ} {tail tail′ tail″ : ℕ}
+    → Spread size m R b lo p mark queue tail mark′ queue′ tail′ → Pushed size m R mark′ queue′ tail′ mark″ queue″ tail″ (b p)
+    → Spread size m R b lo (p + 1) mark queue tail mark″ queue″ tail″
+spread-more {p = p} S P = record {
+  queued = P .queued;
+  kept = record {
+    more = omega (arith, S .kept .more, P .kept .more);
+    entry = λ i l. P .kept .entry i (omega (arith, S .kept .more)) ∙ S .kept .entry i l;
+    still = λ g e. P .kept .still g (S .kept .still g e);
+  };
+  done = λ q l h. elim (ℕ-discrete q p) [ yes z ↦ rw z (P .is) | no d ↦ P .kept .still _ (S .done q l (omega arith)) ];
+}
 
 -- ---- the loop
 
--- both steps of the queue's first `head` entries are marked
-pub record Flood (size n : ℕ) (s t : ℕ → ℕ) (mark queue : List ℕ) (head tail : ℕ) : Type 0 where
-  pub queued : Queue size n s t mark queue tail
+-- the arcs from the queue's first `head` entries lead to marked ones
+pub record Flood (size n m : ℕ) (a b : ℕ → ℕ) (mark queue : List ℕ) (head tail : ℕ) : Type 0 where
+  pub queued : Queue size m (Reached n a b) mark queue tail
   pub upto : head ≤ tail
   pub start : marked mark 0 ≡ true
-  pub done-s : (i : ℕ) → i < head → marked mark (s (getD queue i 0)) ≡ true
-  pub done-t : (i : ℕ) → i < head → marked mark (t (getD queue i 0)) ≡ true
+  pub done : (i p : ℕ) → i < head → p < n → a p ≡ getD queue i 0 → marked mark (b p) ≡ true
 
-pub queue-0 : (size n : ℕ) (s t : ℕ → ℕ) → n ≤ size → Queue size n s t (replicate size 0) (replicate size 0) 0
+pub queue-0 : (size m : ℕ) (R : ℕ → Type 0) → Queue size m R (replicate size 0) (replicate size 0) 0
 unfolding countBelow
-queue-0 size n s t fits = record {
+queue-0 size m R = record {
   marks = length-replicate {A = ℕ} size 0;
   room = length-replicate {A = ℕ} size 0;
-  count = gap (marked (replicate size 0)) 0 n (omega arith) (λ p a b. blank p b) .count;
+  count = gap (marked (replicate size 0)) 0 m (omega arith) (λ g k l. rw blank) .count;
   below = λ i l. absurd (omega arith);
   reach = λ i l. absurd (omega arith);
-  listed = λ p l e. absurd (true≢false (sym e ∙ blank p l));
+  listed = λ g l e. absurd (true≢false (sym e ∙ rw blank));
 }
-  where
-    blank : (p : ℕ) → p < n → marked (replicate size 0) p ≡ false
-    blank p l = rw (getD-replicate {A = ℕ} size p 0 0 (omega arith))
 
-pub flood-0 : {size n : ℕ} {s t : ℕ → ℕ} {mark queue mark′ queue′ : List ℕ} {tail tail′ : ℕ}
-    → Pushed size n s t mark queue tail mark′ queue′ tail′ 0 → Flood size n s t mark′ queue′ 0 tail′
-flood-0 P = record { queued = P .queued; upto = omega arith; start = P .is; done-s = λ i l. absurd (omega arith); done-t = λ i l. absurd (omega arith) }
+pub flood-0 : {size n m : ℕ} {a b : ℕ → ℕ} {mark queue mark′ queue′ : List ℕ} {tail tail′ : ℕ}
+    → Pushed size m (Reached n a b) mark queue tail mark′ queue′ tail′ 0 → Flood size n m a b mark′ queue′ 0 tail′
+flood-0 P = record { queued = P .queued; upto = omega arith; start = P .is; done = λ i p l. absurd (omega arith) }
 
-pub flood-more : {size n : ℕ} {s t : ℕ → ℕ} {mark queue m q m′ q′ : List ℕ} {head tail k k′ : ℕ} → Flood size n s t mark queue head tail → head < tail
-    → Pushed size n s t mark queue tail m q k (s (getD queue head 0)) → Pushed size n s t m q k m′ q′ k′ (t (getD queue head 0))
-    → Flood size n s t m′ q′ (head + 1) k′
-flood-more {s = s} {t = t} {queue = queue} {m′ = m′} {q′ = q′} {head = head} {tail = tail} F l A B = record {
-  queued = B .queued;
-  upto = omega (arith, A .kept .more, B .kept .more);
-  start = B .kept .still 0 (A .kept .still 0 (F .start));
-  done-s = λ i b. rw (same i (omega arith)) (elim (ℕ-discrete i head) [
-    | yes z ↦ rw z (B .kept .still _ (A .is))
-    | no d ↦ B .kept .still _ (A .kept .still _ (F .done-s i (omega arith)))
-  ]);
-  done-t = λ i b. rw (same i (omega arith)) (elim (ℕ-discrete i head) [
-    | yes z ↦ rw z (B .is)
-    | no d ↦ B .kept .still _ (A .kept .still _ (F .done-t i (omega arith)))
-  ]);
+pub flood-more : {size n m : ℕ} {a b : ℕ → ℕ} {lo hi : ℕ} {mark queue mark′ queue′ : List ℕ} {head tail tail′ : ℕ} → Flood size n m a b mark queue head tail → head < tail
+    → ((p : ℕ) → p < n → a p ≡ getD queue head 0 → (lo ≤ p) × (p < hi)) → Spread size m (Reached n a b) b lo hi mark queue tail mark′ queue′ tail′
+    → Flood size n m a b mark′ queue′ (head + 1) tail′
+flood-more {head = head} F l range S = record {
+  queued = S .queued;
+  upto = omega (arith, S .kept .more);
+  start = S .kept .still 0 (F .start);
+  done = λ i p h k e. elim (ℕ-discrete i head) [
+    | yes z ↦ let r = range p k (e ∙ S .kept .entry i (omega arith) ∙ rw z) in S .done p (r .0) (r .1)
+    | no d ↦ S .kept .still _ (F .done i p (omega arith) k (e ∙ S .kept .entry i (omega arith)))
+  ];
 }
-  where
-    same : (i : ℕ) → i < tail → getD q′ i 0 ≡ getD queue i 0
-    same i b = B .kept .entry i (omega (arith, A .kept .more)) ∙ A .kept .entry i b
 
--- the marked places are those that are reached
-pub record Flooded (n : ℕ) (s t : ℕ → ℕ) (mark : List ℕ) : Type 0 where
-  pub only : (p : ℕ) → p < n → marked mark p ≡ true → Reach s t p
-  pub all : {p : ℕ} → Reach s t p → marked mark p ≡ true
+-- the marked ones are those that are reached
+pub record Flooded (n m : ℕ) (a b : ℕ → ℕ) (mark : List ℕ) : Type 0 where
+  pub only : (g : ℕ) → g < m → marked mark g ≡ true → Reached n a b g
+  pub all : {g : ℕ} → Reached n a b g → marked mark g ≡ true
 
-pub flood-end : {size n : ℕ} {s t : ℕ → ℕ} {mark queue : List ℕ} {head tail : ℕ} → Flood size n s t mark queue head tail → tail ≤ head → 0 < n
-    → ((p : ℕ) → p < n → s p < n) → ((p : ℕ) → p < n → t p < n) → Flooded n s t mark
-flood-end {n = n} {s = s} {t = t} {mark = mark} {head = head} F l z bs bt = record {
-  only = λ p a e. let (i, b, q) = F .queued .listed p a e in rw q at (F .queued .reach i b);
+pub flood-end : {size n m : ℕ} {a b : ℕ → ℕ} {mark queue : List ℕ} {head tail : ℕ} → Flood size n m a b mark queue head tail → tail ≤ head → 0 < m
+    → ((p : ℕ) → p < n → b p < m) → Flooded n m a b mark
+flood-end {n = n} {m = m} {a = a} {b = b} {mark = mark} F l z ends = record {
+  only = λ g k e. let (i, h, q) = F .queued .listed g k e in rw q at (F .queued .reach i h);
   all = λ r. all r .1;
 }
   where
-    all : {p : ℕ} → Reach s t p → (p < n) × (marked mark p ≡ true)
-    all here = (z, F .start)
-    all (by-s {p} r) = let (a, e) = all r in let (i, b, q) = F .queued .listed p a e in (bs p a, rw q at (F .done-s i (omega arith)))
-    all (by-t {p} r) = let (a, e) = all r in let (i, b, q) = F .queued .listed p a e in (bt p a, rw q at (F .done-t i (omega arith)))
+    all : {g : ℕ} → Reached n a b g → (g < m) × (marked mark g ≡ true)
+    all first = (z, F .start)
+    all (arc {p} r k) = let (h, e) = all r in let (i, s, q) = F .queued .listed (a p) h e in (ends p k, F .done i p (omega arith) k (sym q))

@@ -10,5 +10,5 @@ pub mod First
 pub mod Count
 pub mod Filled
 pub mod Orbit
-pub mod Flood
 pub mod Rounds
+pub mod Flood

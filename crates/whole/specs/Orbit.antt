@@ -8,7 +8,7 @@ use native.Mathlib.Decide.{ℕ-discrete, decLt}
 use lib.Dec.{eqb}
 use borrow.Author.Tests.{eqb-true, eqb-false, not-true}
 use Rattle.whole.specs.First.{firstBelow, never, first-holds}
-use Rattle.whole.specs.Count.{Distinct, all-met, countBelow, gap, but, count-but, both}
+use Rattle.whole.specs.Count.{Distinct, all-met, countBelow, gap, but, count-but, both, is-false}
 
 unfoldable pub iterate : (ℕ → ℕ) → ℕ → ℕ → ℕ
 iterate s zero p = p
@@ -52,11 +52,21 @@ module _ {f : ℕ → Bool} {n : ℕ} {s : ℕ → ℕ} (S : Steps f n s) {p : �
       d : Distinct f n k (λ j. iterate s j p)
       d = record { below = λ j a. at j .0; holds = λ j a. at j .1; apart = apart r }
 
--- ---- the other way
+shift : (s : ℕ → ℕ) (i x : ℕ) → iterate s i (s x) ≡ s (iterate s i x)
+unfolding iterate
+shift s zero x = refl
+shift s (suc i) x = ap s (shift s i x)
 
-is-false : (t : Bool) → (t ≡ true → ⊥) → t ≡ false
-is-false true h = absurd (h refl)
-is-false false h = refl
+-- a place reached from p comes back after j steps only where p does
+pub return-first : {f : ℕ → Bool} {n : ℕ} {s : ℕ → ℕ} {p : ℕ} → Steps f n s → p < n → f p ≡ true → (j k : ℕ) → iterate s j (iterate s k p) ≡ iterate s k p → iterate s j p ≡ p
+unfolding iterate
+return-first S l h j zero e = e
+return-first {s = s} {p = p} S l h j (suc k) e =
+    let (a, b) = at S l h k in
+    let (c, d) = at S a b j in
+    return-first S l h j k (S .once _ _ c a d b (sym (shift s j (iterate s k p)) ∙ e))
+
+-- ---- the other way
 
 -- a test that holds only at the first j of g holds no more than j times
 abbrev pub Covered : (ℕ → Bool) → ℕ → ℕ → (ℕ → ℕ) → Type 0

@@ -1,0 +1,81 @@
+-- `edges::across` meets its contract. The loop's invariant: the places below p are filled. Assumes nothing.
+use borrow.Author.Needs.{needs}
+use mathlib.Core.Path.{_≡_}
+use Prim.Native.Nat.{_≤_, _-_}
+use native.Mathlib.Omega.{arith}
+use lib.ListN.{length}
+use Rattle.whole.specs.Filled.{Filled, filled-0, filled-more}
+use Rattle.edges.specs.Index.{to-small}
+use Rattle.edges.specs.Across.{acrossOf, across-is, some-reverse, across}
+use Rattle.edges.proofs.last_edge.Reads as last-edge-reads
+use Rattle.edges.proofs.across.Reads as reads
+use Rattle.edges.proofs.across.Lts as lts
+use Rattle.edges.proofs.across.Statement.{statement}
+use Rattle.edges.proofs.across.Tie as tie
+
+abbrev Inv-loop : tie.InvT-loop
+Inv-loop corners begins ends last back across₀ p₀ across p = (p ≤ length corners) × Filled 6144 across (acrossOf corners begins) p
+
+abbrev μ-loop : tie.MeasureT-loop
+μ-loop corners begins ends last back across₀ p₀ across p = length corners - p
+
+last-edge-requires : tie.Need-last-edge-requires Inv-loop μ-loop
+last-edge-requires c κs =
+    let l = c .before .before .before in
+    let s = l .before .before .before in
+    (s .pre .0, rw (s .pre .0 .filled .at (l .loop .p) (omega arith)) (to-small (s .pre .0) {p = l .loop .p} (omega arith)))
+
+room : tie.Need-array-write-across Inv-loop μ-loop
+room c = omega (arith, c .before .before .before .before .before .before .before .pre .0 .laid .short)
+
+some : tie.Need-sub-across Inv-loop μ-loop
+some c =
+    let l = c .before .before .before .before in
+    let s = l .before .before .before in
+    rw (c .last-edge .ensures, s .pre .0 .filled .at (l .loop .p) (omega arith)) (some-reverse (s .pre .1) (omega arith))
+
+-- what is stored
+is : (c : lts.After-last-edge (last-edge-reads.Asked, last-edge-reads.Learnt) reads.Pre reads.Post Inv-loop μ-loop)
+    → let l = c .before .before .before .before in
+    let a = l .before .before .before .args in
+    c .last-edge .result - 1 ≡ acrossOf (a .corners .now) (a .begins .now) (l .loop .p)
+is c =
+    let l = c .before .before .before .before in
+    let s = l .before .before .before in
+    across-is (s .args .corners .now) (s .args .begins .now) (l .loop .p) (c .last-edge .ensures) (s .pre .0 .filled .at (l .loop .p) (omega arith))
+
+fits : tie.Need-cast-across Inv-loop μ-loop
+fits c =
+    let l = c .before .before .before .before in
+    let s = l .before .before .before in
+    omega (arith, is c, across (s .pre .1) {p = l .loop .p} (omega arith) .below, s .pre .0 .laid .short)
+
+loop-again : tie.Need-loop-again Inv-loop μ-loop
+loop-again c = (omega arith, filled-more _ (c .before .before .before .before .loop .inv .1) (room c) (is c))
+
+returns : tie.Need-returns Inv-loop μ-loop
+returns c =
+    let s = c .before .before .before .before in
+    let e : length (s .args .corners .now) ≡ c .before .loop .p = omega arith in
+    record { paired = s .pre .1; filled = rw e (c .before .loop .inv .1) }
+
+pub across-spec : {M : Type 1} → statement M
+across-spec =
+    tie.close
+    (tie.spec
+    Inv-loop
+    μ-loop
+    (λ c. (search needs, filled-0 6144 _))
+    (λ c. omega arith)
+    (λ c. omega (arith, c .before .before .before .before .pre .0 .laid .short))
+    (λ c. omega arith)
+    (λ c. omega arith)
+    last-edge-requires
+    some
+    fits
+    (λ c. omega arith)
+    room
+    (λ c. omega arith)
+    (λ c. omega arith)
+    loop-again
+    returns)

@@ -1,0 +1,53 @@
+-- A search over the places of the run, in their order, finds the lowest facet and then the lowest position. Assumes nothing.
+use mathlib.Core.Path.{_≡_, refl, sym, ap, _∙_}
+use mathlib.Core.Bool.{Bool, true, false}
+use mathlib.Core.List.{List}
+use Prim.Native.Nat.{ℕ, _+_, _-_, _≤_, _<_}
+use native.Mathlib.Omega.{arith}
+use native.Mathlib.Decide.{decLt}
+use lib.ListN.{length}
+use Rattle.whole.specs.First.{None, never, none-all}
+use Rattle.tables.specs.Tables.{facets, begin, sides, homeOf}
+use Rattle.tables.specs.Size.{Laid}
+use Rattle.tables.specs.Places.{home, home-is, home-rise, place-in, place-below}
+use Rattle.tables.specs.Found.{firstPlace, Nowhere, first-is, no-place-is, first-none}
+use Rattle.tables.specs.declared.Found.{Found}
+use Rattle.tables.specs.declared.Found.the-variants.{At, Nothing}
+
+-- the first position, facet by facet, at whose place the test holds
+abbrev pub byFacets : List ℕ → (ℕ → Bool) → Found
+byFacets begins test = firstPlace (facets begins) (sides begins) (λ f p. test (begin begins f + p))
+
+-- the places of an earlier facet are earlier
+early : {corners begins : List ℕ} {p : ℕ} (L : Laid corners begins) (g q : ℕ) → p < length corners → g < homeOf begins p → q < sides begins g → begin begins g + q < p
+early {begins = begins} {p = p} L g q l k h =
+    let m : g < facets begins = omega (arith, home L l .facet) in
+    elim (decLt (begin begins g + q) p) [
+      | yes b ↦ b
+      | no b ↦ absurd (omega (arith, home-is L (place-in L m h), home-rise L {p = p} {q = begin begins g + q} (omega arith) (place-below L m h)))
+    ]
+
+module _ {corners begins : List ℕ} (L : Laid corners begins) (test : ℕ → Bool) where
+  pub flat-hit : {p : ℕ} → None test p → test p ≡ true → p < length corners → At (homeOf begins p) (p - begin begins (homeOf begins p)) ≡ byFacets begins test
+  flat-hit {p} n e l =
+      let i = home L l in
+      let again : begin begins (homeOf begins p) + (p - begin begins (homeOf begins p)) ≡ p = omega (arith, i .low) in
+      sym (first-is (record {
+        facet = omega (arith, i .facet);
+        place = omega (arith, i .low, i .high);
+        applies = rw again e;
+        before = λ q k. unmet _ (omega (arith, i .low));
+        earlier = λ g q k h. unmet _ (early L g q l k h);
+      }))
+    where
+      unmet : (q : ℕ) → q < p → test q ≡ false
+      unmet = never test p (omega (arith, n .upto))
+
+  pub flat-none : Nowhere (length corners) test → byFacets begins test ≡ Nothing
+  flat-none h = no-place-is (λ f p l k. h _ (place-below L l k))
+
+  pub none-flat : byFacets begins test ≡ Nothing → Nowhere (length corners) test
+  none-flat e p l =
+      let i = home L l in
+      let again : begin begins (homeOf begins p) + (p - begin begins (homeOf begins p)) ≡ p = omega (arith, i .low) in
+      rw again at (first-none (facets begins) (sides begins) (λ f p. test (begin begins f + p)) e (homeOf begins p) (p - begin begins (homeOf begins p)) (omega (arith, i .facet)) (omega (arith, i .low, i .high)))

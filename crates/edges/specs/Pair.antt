@@ -1,0 +1,54 @@
+-- Number 6, PAIR: "a directed edge occurs more than once, or its reverse doesn't occur exactly once". Assumes nothing.
+use mathlib.Core.Path.{_≡_, refl}
+use mathlib.Core.Bool.{Bool, true, false, not, _&&_, _||_}
+use mathlib.Core.List.{List}
+use Prim.Native.Nat.{ℕ, _+_, _<_}
+use lib.Dec.{eqb, ltb}
+use lib.ListN.{length, getD}
+use borrow.Author.Tests.{eq-eqb}
+use Rattle.whole.specs.Count.{countBelow}
+use Rattle.tables.specs.Tables.{facets, begin, sides, from, to}
+use Rattle.tables.specs.Size.{Laid}
+use Rattle.tables.specs.Found.{firstPlace}
+use Rattle.tables.specs.declared.Found.{Found}
+use Rattle.tables.specs.declared.Found.the-variants.{Nothing}
+use Rattle.edges.specs.Chains.{leaves, Within}
+use Rattle.edges.specs.Index.{Leaving}
+use Rattle.edges.specs.Flat.{flat-none, none-flat}
+
+-- the edge at place p goes from a to b
+abbrev pub isEdge : List ℕ → List ℕ → ℕ → ℕ → ℕ → Bool
+isEdge corners begins a b p = leaves corners a p && eqb (to corners begins p) b
+
+-- how often the directed edge from a to b occurs
+abbrev pub times : List ℕ → List ℕ → ℕ → ℕ → ℕ
+times corners begins a b = countBelow (isEdge corners begins a b) (length corners)
+
+-- the directed edge at place p occurs more than once, or its reverse doesn't occur exactly once
+abbrev pub unpaired : List ℕ → List ℕ → ℕ → Bool
+unpaired corners begins p =
+    ltb 1 (times corners begins (from corners p) (to corners begins p)) || not (eqb (times corners begins (to corners begins p) (from corners p)) 1)
+
+abbrev pub pair : List ℕ → List ℕ → Found
+pair corners begins = firstPlace (facets begins) (sides begins) (λ f p. unpaired corners begins (begin begins f + p))
+
+-- ---- PAIR applies nowhere
+
+pub record Paired (corners begins : List ℕ) : Type 0 where
+  pub paired : (p : ℕ) → p < length corners → unpaired corners begins p ≡ false
+
+pub pair-none : {corners begins : List ℕ} → Laid corners begins → pair corners begins ≡ Nothing → Paired corners begins
+pair-none {corners} {begins} L e = record { paired = none-flat L (unpaired corners begins) e }
+
+pub paired-none : {corners begins : List ℕ} → Laid corners begins → Paired corners begins → pair corners begins ≡ Nothing
+paired-none {corners} {begins} L P = flat-none L (unpaired corners begins) (P .paired)
+
+-- ---- along a chain
+
+pub edge-within : (corners begins : List ℕ) (a b : ℕ) → Within corners a (isEdge corners begins a b)
+edge-within corners begins a b p e = rw e
+
+-- where the edge at p leaves a, the code looks at its end
+pub edge-entry : {corners begins ends last back : List ℕ} {a p : ℕ} (b : ℕ) → Leaving corners begins ends last back → p < length corners → from corners p ≡ a
+    → isEdge corners begins a b p ≡ eqb (getD ends p 0) b
+edge-entry {p = p} b I l e = rw (eq-eqb _ _ e, I .filled .at p l)

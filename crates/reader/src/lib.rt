@@ -1,0 +1,248 @@
+ghost use mathlib.Core.Path.{_≡_};
+ghost use Prim.Native.Nat.{_+_, _*_, _≤_, _<_};
+ghost use lib.ListN.{length, take};
+ghost use lib.Seq.{sets};
+ghost use Rattle.tables.specs.Tables.{mostCorners, mostSides};
+ghost use Rattle.tape.specs.Over.{over};
+ghost use Rattle.tape.specs.Reading.{pointAt, facetAt, endAt, lookAt, readTape, coordsAt, numbersAt, pointsAt, cornersAt, beginsAt};
+ghost use Rattle.tape.specs.Whole.{Facets};
+ghost use Rattle.reader.specs.Answer.{noRoom, reading, pointsAfter, cornersAfter, beginsAfter};
+
+pub const POINT_ROOM: usize = 3072;
+
+pub const CORNER_ROOM: usize = 6144;
+
+pub const BEGIN_ROOM: usize = 2049;
+
+// The reader's answer: 0 with V, F and corners, or a refusal's number with its byte offset.
+pub struct Reading {
+    pub number: u16,
+    pub first: usize,
+    pub second: usize,
+    pub third: usize,
+}
+
+// ORDER, LIMIT and CUT at a point's record.
+pub fn look_point(tape: &[u8], at: usize, v: usize, f: usize) -> tape::Next
+    requires { ⌜ at < length (now tape) ⌝ }
+    ensures { λ r. ⌜ r ≡ pointAt (now (tape .entry)) at v f ⌝ }
+{
+    if 0 < f {
+        return tape::Next::Bad(18, at);
+    }
+    if tables::MOST_VERTICES <= v {
+        return tape::Next::Bad(19, at);
+    }
+    if tape.len() - at < 7 {
+        return tape::Next::Bad(20, at);
+    }
+    tape::Next::Point
+}
+
+// LIMIT and CUT at the record of a facet with n corners.
+pub fn look_facet(tape: &[u8], at: usize, f: usize, c: usize, n: usize) -> tape::Next
+    requires { ⌜ (at < length (now tape)) × (c ≤ mostCorners) × (n ≤ mostSides) ⌝ }
+    ensures { λ r. ⌜ r ≡ facetAt (now (tape .entry)) at f c n ⌝ }
+{
+    if tables::MOST_FACETS <= f {
+        return tape::Next::Bad(19, at);
+    }
+    if tables::MOST_CORNERS < c + n {
+        return tape::Next::Bad(19, at);
+    }
+    if tape.len() - at < 1 + 2 * n {
+        return tape::Next::Bad(20, at);
+    }
+    tape::Next::Facet(n)
+}
+
+// CUT, COUNT and TAIL at the end record.
+fn look_end(tape: &[u8], at: usize, v: usize, f: usize) -> tape::Next
+    requires { ⌜ at < length (now tape) ⌝ }
+    ensures { λ r. ⌜ r ≡ endAt (now (tape .entry)) at v f ⌝ }
+{
+    let left = tape.len() - at;
+    if left < 5 {
+        return tape::Next::Bad(20, at);
+    }
+    if tape::unsigned_at(tape, at + 1) as usize != v {
+        return tape::Next::Bad(21, at);
+    }
+    if tape::unsigned_at(tape, at + 3) as usize != f {
+        return tape::Next::Bad(21, at);
+    }
+    if 5 < left {
+        return tape::Next::Bad(22, at + 5);
+    }
+    tape::Next::End
+}
+
+// What stands at an offset, where v points and f facets with c corners came before.
+fn look(tape: &[u8], at: usize, v: usize, f: usize, c: usize) -> tape::Next
+    requires { ⌜ c ≤ mostCorners ⌝ }
+    ensures { λ r. ⌜ r ≡ lookAt (now (tape .entry)) at v f c ⌝ }
+{
+    if tape.len() <= at {
+        return tape::Next::Bad(20, at);
+    }
+    let kind = tape[at] as usize;
+    if kind == 0 {
+        return look_end(tape, at, v, f);
+    }
+    if kind == 1 {
+        return look_point(tape, at, v, f);
+    }
+    if kind == 2 {
+        return tape::Next::Bad(17, at);
+    }
+    if tables::MOST_SIDES < kind {
+        return tape::Next::Bad(17, at);
+    }
+    look_facet(tape, at, f, c, kind)
+}
+
+// The deciding pass: what the records add up to, or the first bad one.
+fn decide(tape: &[u8]) -> tape::Outcome
+    ensures { λ r. ⌜ r ≡ readTape (now (tape .entry)) ⌝ }
+{
+    let mut at = 0;
+    let mut v = 0;
+    let mut f = 0;
+    let mut c = 0;
+    loop {
+        match look(tape, at, v, f, c) {
+            tape::Next::Point => {
+                at += 7;
+                v += 1;
+            }
+            tape::Next::Facet(n) => {
+                at += 1 + 2 * n;
+                f += 1;
+                c += n;
+            }
+            tape::Next::End => return tape::Outcome::Read(v, f, c),
+            tape::Next::Bad(number, offset) => return tape::Outcome::Refused(number, offset),
+        }
+    }
+}
+
+// The numbers of a point's body, which starts at i, stored from p on.
+fn keep_point(points: &mut [i32], p: usize, tape: &[u8], i: usize)
+    requires { ⌜ (p + 3 ≤ length (now points)) × (i + 6 ≤ length (now tape)) ⌝ }
+    ensures { λ _. ⌜ now (points .exit) ≡ sets (now (points .entry)) p (coordsAt (now (tape .entry)) i) ⌝ }
+{
+    points[p] = tape::signed_at(tape, i);
+    points[p + 1] = tape::signed_at(tape, i + 2);
+    points[p + 2] = tape::signed_at(tape, i + 4);
+}
+
+// The points of n records from `at` on.
+pub fn fill_points(tape: &[u8], at: usize, points: &mut [i32], n: usize)
+    requires { ⌜ (at + 7 * n ≤ length (now tape)) × (n * 3 ≤ length (now points)) ⌝ }
+    ensures { λ _. ⌜ now (points .exit) ≡ over (pointsAt (now (tape .entry)) at n) (now (points .entry)) ⌝ }
+{
+    let mut v = 0;
+    while v < n {
+        keep_point(points, v * 3, tape, at + 7 * v + 1);
+        v += 1;
+    }
+}
+
+// The numbers of a facet's body, which starts at i, gathered in a tray.
+fn gather(tray: &mut [u16], tape: &[u8], i: usize, n: usize)
+    requires { ⌜ (n ≤ length (now tray)) × (i + 2 * n ≤ length (now tape)) ⌝ }
+    ensures { λ _. ⌜ now (tray .exit) ≡ over (numbersAt (now (tape .entry)) i n) (now (tray .entry)) ⌝ }
+{
+    let mut k = 0;
+    while k < n {
+        tray[k] = tape::unsigned_at(tape, i + 2 * k);
+        k += 1;
+    }
+}
+
+// The first n numbers of a tray, stored from c on.
+fn store(corners: &mut [u16], c: usize, tray: &[u16], n: usize)
+    requires { ⌜ (n ≤ length (now tray)) × (c + n ≤ length (now corners)) ⌝ }
+    ensures { λ _. ⌜ now (corners .exit) ≡ sets (now (corners .entry)) c (take n (now (tray .entry))) ⌝ }
+{
+    let mut k = 0;
+    while k < n {
+        corners[c + k] = tray[k];
+        k += 1;
+    }
+}
+
+// The corners and the begins of n facets' records from `from` on.
+pub fn fill_facets(tape: &[u8], from: usize, corners: &mut [u16], begins: &mut [u16], n: usize)
+    requires { ⌜ Facets (now tape) from n × (mostCorners ≤ length (now corners)) × (n < length (now begins)) ⌝ }
+    ensures { λ _. ⌜ now (corners .exit) ≡ over (cornersAt (now (tape .entry)) from n) (now (corners .entry)) ⌝ }
+    ensures { λ _. ⌜ now (begins .exit) ≡ over (beginsAt (now (tape .entry)) from (n + 1)) (now (begins .entry)) ⌝ }
+{
+    let mut tray = [0u16; 12];
+    let mut at = from;
+    let mut c = 0;
+    let mut f = 0;
+    while f < n {
+        let sides = tape[at] as usize;
+        begins[f] = c as u16;
+        gather(&mut tray, tape, at + 1, sides);
+        store(corners, c, &tray, sides);
+        at += 1 + 2 * sides;
+        c += sides;
+        f += 1;
+    }
+    begins[n] = c as u16;
+}
+
+// Whether a lent table is too short, by how many entries each has.
+pub fn no_room(points: usize, corners: usize, begins: usize) -> bool
+    ensures { λ r. ⌜ r ≡ noRoom points corners begins ⌝ }
+{
+    if points < POINT_ROOM {
+        return true;
+    }
+    if corners < CORNER_ROOM {
+        return true;
+    }
+    begins < BEGIN_ROOM
+}
+
+// Reads a tape into the lent tables.
+pub fn read_tape(
+    tape: &[u8],
+    points: &mut [i32],
+    corners: &mut [u16],
+    begins: &mut [u16],
+) -> Reading
+    ensures { λ r. ⌜ r ≡ reading (now (tape .entry)) (now (points .entry)) (now (corners .entry)) (now (begins .entry)) ⌝ }
+    ensures { λ _. ⌜ now (points .exit) ≡ pointsAfter (now (tape .entry)) (now (points .entry)) (now (corners .entry)) (now (begins .entry)) ⌝ }
+    ensures { λ _. ⌜ now (corners .exit) ≡ cornersAfter (now (tape .entry)) (now (points .entry)) (now (corners .entry)) (now (begins .entry)) ⌝ }
+    ensures { λ _. ⌜ now (begins .exit) ≡ beginsAfter (now (tape .entry)) (now (points .entry)) (now (corners .entry)) (now (begins .entry)) ⌝ }
+{
+    if no_room(points.len(), corners.len(), begins.len()) {
+        return Reading {
+            number: 16,
+            first: 0,
+            second: 0,
+            third: 0,
+        };
+    }
+    match decide(tape) {
+        tape::Outcome::Read(v, f, c) => {
+            fill_points(tape, 0, points, v);
+            fill_facets(tape, 7 * v, corners, begins, f);
+            Reading {
+                number: 0,
+                first: v,
+                second: f,
+                third: c,
+            }
+        }
+        tape::Outcome::Refused(number, offset) => Reading {
+            number,
+            first: offset,
+            second: 0,
+            third: 0,
+        },
+    }
+}

@@ -1,0 +1,6 @@
+-- The round trips: what is read is the tape of the tables that were filled, and the tape of tables is read as those tables.
+pub mod Taped
+pub mod ReadIsTape
+pub mod TapeIsRead
+pub mod Trips
+pub mod Cases

@@ -1,0 +1,31 @@
+-- What the writer answers, and what it leaves in the lent buffer.
+use mathlib.Core.Bool.{cond}
+use mathlib.Core.List.{List}
+use Prim.Native.Nat.{ℕ}
+use lib.Dec.{ltb, eqb}
+use lib.IntN.{ℤ}
+use lib.ListN.{length}
+use Rattle.space.specs.Points.{vertices}
+use Rattle.tables.specs.Answer.{accepted, refused, orElse}
+use Rattle.tables.specs.Size.{isSize}
+use Rattle.tables.specs.Rules.{range, index}
+use Rattle.tables.specs.declared.Answer.{Answer}
+use Rattle.tape.specs.Over.{over}
+use Rattle.tape.specs.Tape.{tape}
+
+-- "The writer refuses with 1, 2 or 3 as the judge does", or answers what comes after
+abbrev pub checked : List ℤ → List ℕ → List ℕ → Answer → Answer
+checked points corners begins later =
+    cond (isSize points corners begins) (refused 1 0 0) (orElse 2 (range points) (orElse 3 (index (vertices points) corners begins) later))
+
+-- "then 23 SPACE, places 0, exactly when the lent buffer is shorter than the tape. Otherwise it gives the length"
+abbrev pub spaced : List ℕ → List ℕ → Answer
+spaced bytes buffer = cond (ltb (length buffer) (length bytes)) (refused 23 0 0) (accepted (length bytes) 0 0)
+
+abbrev pub written : List ℤ → List ℕ → List ℕ → List ℕ → Answer
+written points corners begins buffer = checked points corners begins (spaced (tape points corners begins) buffer)
+
+-- "and later bytes keep their values"; a refusal alters nothing
+abbrev pub bufferAfter : List ℤ → List ℕ → List ℕ → List ℕ → List ℕ
+bufferAfter points corners begins buffer =
+    cond (eqb (written points corners begins buffer .number) 0) (over (tape points corners begins) buffer) buffer
