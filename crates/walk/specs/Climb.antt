@@ -7,6 +7,9 @@ use lib.IntN.{ℤ}
 use lib.ListN.{length, set, drop, length-set, length-append, length-drop}
 use lib.Seq.{drop-set-lt}
 use Rattle.space.specs.Points.{vertices, Vertex}
+use Rattle.edges.specs.Index.{Leaving}
+use Rattle.flat.specs.Facet.{Measured}
+use Rattle.walk.specs.Direction.{Permitted}
 use Rattle.walk.specs.Step.{begin, step}
 use Rattle.walk.specs.Ready.{Ready, Stands}
 use Rattle.walk.specs.Stepped.{Stepped, moved, stayed, stepped}
@@ -15,9 +18,10 @@ use Rattle.walk.specs.Rise.{Going, going-0, going-more, stopped, stood-l
 use Rattle.walk.specs.declared.Direction.{Direction}
 use Rattle.walk.specs.declared.Standing.{Standing}
 
--- what the loop asks: besides, a start that there is, and room for V entries
-pub record Climbs (points : List ℤ) (corners begins ends last back : List ℕ) (d : Direction) (start : ℕ) (trail : List ℕ) : Type 0 where
-  pub ready : Ready points corners begins ends last back d
+-- what a walk asks: tables that pass 1 to 3, a permitted direction, a start that there is, and room for V entries
+pub record Climbs (points : List ℤ) (corners begins : List ℕ) (d : Direction) (start : ℕ) (trail : List ℕ) : Type 0 where
+  pub measured : Measured points corners begins
+  pub permitted : Permitted d
   pub vertex : Vertex points start
   pub room : vertices points ≤ length trail
 
@@ -28,14 +32,16 @@ pub record Climbing (points : List ℤ) (corners begins : List ℕ) (d : Directi
   pub on : next ≡ after points corners begins d start (suc k)
   pub wrote : trail ≡ stood points corners begins d start (suc k) ++ drop (suc k) lent
 
-module _ {points : List ℤ} {corners begins ends last back : List ℕ} {d : Direction} {start : ℕ} {lent : List ℕ}
-    (C : Climbs points corners begins ends last back d start lent) where
+module _ {points : List ℤ} {corners begins : List ℕ} {d : Direction} {start : ℕ} {lent : List ℕ} (C : Climbs points corners begins d start lent) where
   abbrev walk : ℕ → Standing
   walk = after points corners begins d start
 
   -- the start is written before the loop
   abbrev On : List ℕ → Standing → Standing → ℕ → Type 0
   On trail here next k = Climbing points corners begins d start (set lent 0 start) trail here next k
+
+  pub is-ready : {ends last back : List ℕ} → Leaving corners begins ends last back → Ready points corners begins ends last back d
+  is-ready I = record { measured = C .measured; leaving = I; permitted = C .permitted }
 
   pub some-room : 0 < length lent
   some-room = omega (arith, C .vertex, C .room)
@@ -80,7 +86,7 @@ module _ {points : List ℤ} {corners begins ends last back : List ℕ} {d : Dir
       climbing-room = rw climbing-length (omega (arith, next-moves, moves .left, C .room))
 
       pub climbing-few : next .moves < 1024
-      climbing-few = omega (arith, next-moves, moves .left, C .ready .measured .sound .named .few)
+      climbing-few = omega (arith, next-moves, moves .left, C .measured .sound .named .few)
 
       pub climbing-less : vertices points - next .moves < vertices points - here .moves
       climbing-less = omega (arith, next-moves, here-moves, moves .left)

@@ -7,3 +7,4 @@ pub mod Stepped
 pub mod Course
 pub mod Rise
 pub mod Climb
+pub mod Walk

@@ -5,12 +5,15 @@ ghost use Rattle.space.specs.Vec.{vec};
 ghost use Rattle.space.specs.Vectors.{_·_};
 ghost use Rattle.space.specs.Range.{limit};
 ghost use Rattle.space.specs.Points.{Vertex, Ranged};
+ghost use Rattle.tables.specs.Answer.{refused};
+ghost use Rattle.edges.specs.Index.{Leaving};
 ghost use Rattle.walk.specs.Direction.{direction, axes, steepest, isSteep, isWrong, Permitted, height, farthest};
 ghost use Rattle.walk.specs.Step.{spot, begin, step};
 ghost use Rattle.walk.specs.Best.{better, Placed, Best};
 ghost use Rattle.walk.specs.Ready.{Ready, Stands};
 ghost use Rattle.walk.specs.Course.{finish, trailed};
 ghost use Rattle.walk.specs.Climb.{Climbs};
+ghost use Rattle.walk.specs.Walk.{halted, arrived, walked, trailAfter};
 
 // A direction of three whole numbers.
 pub struct Direction {
@@ -224,7 +227,8 @@ fn climb(
     start: u16,
     trail: &mut [u16],
 ) -> Standing
-    requires { ⌜ Climbs (now points) (now corners) (now begins) (now ends) (now last) (now back) direction start (now trail) ⌝ }
+    requires { ⌜ Leaving (now corners) (now begins) (now ends) (now last) (now back) ⌝ }
+    requires { ⌜ Climbs (now points) (now corners) (now begins) direction start (now trail) ⌝ }
     ensures { λ r. ⌜ r ≡ finish (now (points .entry)) (now (corners .entry)) (now (begins .entry)) direction start ⌝ }
     ensures { λ r. ⌜ now (trail .exit) ≡ trailed (now (points .entry)) (now (corners .entry)) (now (begins .entry)) direction start (now (trail .entry)) ⌝ }
 {
@@ -239,4 +243,103 @@ fn climb(
         next = here.step(points, corners, begins, ends, last, back, direction);
     }
     here
+}
+
+// Builds the index of the edges, and climbs.
+fn set_out(
+    points: &[i32],
+    corners: &[u16],
+    begins: &[u16],
+    direction: Direction,
+    start: u16,
+    trail: &mut [u16],
+) -> Standing
+    requires { ⌜ Climbs (now points) (now corners) (now begins) direction start (now trail) ⌝ }
+    ensures { λ r. ⌜ r ≡ finish (now (points .entry)) (now (corners .entry)) (now (begins .entry)) direction start ⌝ }
+    ensures { λ r. ⌜ now (trail .exit) ≡ trailed (now (points .entry)) (now (corners .entry)) (now (begins .entry)) direction start (now (trail .entry)) ⌝ }
+{
+    let home = edges::homes(corners, begins);
+    let ends = edges::ends(corners, begins, &home);
+    let mut last = [0u16; 1024];
+    let back = edges::chains(corners, &mut last);
+    climb(
+        points,
+        corners,
+        begins,
+        &ends,
+        &last,
+        &back,
+        direction,
+        start,
+        trail,
+    )
+}
+
+// The walk's answer: the number and places beside the last vertex, its height, and the moves.
+pub struct Walked {
+    pub answer: tables::Answer,
+    pub vertex: u16,
+    pub height: i64,
+    pub moves: usize,
+}
+
+impl Walked {
+    fn halted(answer: tables::Answer) -> Self
+        ensures { λ r. ⌜ r ≡ halted answer ⌝ }
+    {
+        Self {
+            answer,
+            vertex: 0,
+            height: 0,
+            moves: 0,
+        }
+    }
+
+    fn refused(number: u16) -> Self
+        ensures { λ r. ⌜ r ≡ halted (refused number 0 0) ⌝ }
+    {
+        Self::halted(tables::Answer::refused(number, 0, 0))
+    }
+
+    fn arrived(last: Standing) -> Self
+        ensures { λ r. ⌜ r ≡ arrived last ⌝ }
+    {
+        let answer = tables::Answer::refused(0, 0, 0);
+        let spot = last.spot;
+        Self {
+            answer,
+            vertex: spot.vertex,
+            height: spot.height,
+            moves: last.moves,
+        }
+    }
+}
+
+// The walk: from the start to a vertex than which none is higher, along the edges of a solid that it judges first.
+pub fn walk(
+    points: &[i32],
+    corners: &[u16],
+    begins: &[u16],
+    direction: Direction,
+    start: usize,
+    trail: &mut [u16],
+) -> Walked
+    ensures { λ r. ⌜ r ≡ walked (now (points .entry)) (now (corners .entry)) (now (begins .entry)) direction start (now (trail .entry)) ⌝ }
+    ensures { λ r. ⌜ now (trail .exit) ≡ trailAfter (now (points .entry)) (now (corners .entry)) (now (begins .entry)) direction start (now (trail .entry)) ⌝ }
+{
+    let answer = judge::judge(points, corners, begins);
+    if answer.number != 0 {
+        return Walked::halted(answer);
+    }
+    let vertices = points.len() / 3;
+    if vertices <= start {
+        return Walked::refused(13);
+    }
+    if direction.is_wrong() {
+        return Walked::refused(14);
+    }
+    if trail.len() < vertices {
+        return Walked::refused(15);
+    }
+    Walked::arrived(set_out(points, corners, begins, direction, start as u16, trail))
 }
