@@ -8,3 +8,4 @@ pub mod Course
 pub mod Rise
 pub mod Climb
 pub mod Walk
+pub mod Demand3

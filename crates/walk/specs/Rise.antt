@@ -6,6 +6,7 @@ use Prim.Native.Nat.{ℕ, zero, suc, _+_, _-_, _≤_, _<_}
 use native.Mathlib.Nat.{add-zero, add-suc}
 use native.Mathlib.Numerals.{add-one}
 use native.Mathlib.Omega.{arith}
+use native.Mathlib.Decide.{ℕ-discrete}
 use lib.IntN.{ℤ}
 use lib.Signed.{ltZ, _≤ℤ_, _<ℤ_}
 use lib.ListN.{length, getD, set, drop, length-append, List·getD-append}
@@ -14,10 +15,10 @@ use Rattle.whole.specs.Order.{eq→le, <-trans, clash, ltZ-true, true-ltZ, fals
 use Rattle.whole.specs.Count.{countBelow, count-le, count-less}
 use Rattle.space.specs.Points.{vertices, Vertex}
 use Rattle.walk.specs.Direction.{height}
-use Rattle.walk.specs.Step.{isHigher, begin, moveTo, step}
+use Rattle.walk.specs.Step.{isNeighbour, isHigher, moveTo, step}
 use Rattle.walk.specs.Best.{Placed}
 use Rattle.walk.specs.Ready.{Stands}
-use Rattle.walk.specs.Stepped.{Stepped, moved, stayed, stepped}
+use Rattle.walk.specs.Stepped.{Chosen, Stepped, moved, stayed, stepped}
 use Rattle.walk.specs.Course.{after, finish, stood, trailed}
 use Rattle.walk.specs.declared.Direction.{Direction}
 use Rattle.walk.specs.declared.Standing.{Standing}
@@ -77,6 +78,34 @@ module _ (points : List ℤ) (corners begins : List ℕ) (d : Direction) (start 
       let z : k + (vertices points - k) ≡ vertices points = omega (arith, G .left) in
       rw z at (still k e (vertices points - k))
 
+  -- ---- the whole walk
+
+  -- step i moves: to the neighbour that the rule chooses, and up
+  pub record Moves (i : ℕ) : Type 0 where
+    pub chosen : Chosen points corners begins d (walk i .spot .vertex) (walk (suc i) .spot .vertex)
+    pub up : height points d (walk i .spot .vertex) <ℤ height points d (walk (suc i) .spot .vertex)
+
+  -- it moves k times, and stops where no neighbour is higher
+  pub record Ends (k : ℕ) : Type 0 where
+    pub going : Going k
+    pub moves : (i : ℕ) → i < k → Moves i
+    pub last : finish points corners begins d start ≡ walk k
+    pub stuck : (w : ℕ) → Vertex points w → isNeighbour corners begins (walk k .spot .vertex) w ≡ true → height points d w ≤ℤ height points d (walk k .spot .vertex)
+
+  pub ends : Vertex points start → (k : ℕ) × Ends k
+  unfolding after
+  ends l = go (vertices points) 0 (going-0 l) (omega arith) (λ i b. absurd (omega arith))
+    where
+      go : (fuel k : ℕ) → Going k → vertices points ≤ k + fuel → ((i : ℕ) → i < k → Moves i) → (k : ℕ) × Ends k
+      go zero k G b M = absurd (omega (arith, G .left))
+      go (suc fuel) k G b M = elim (stepped points corners begins d (walk k)) [
+        | moved u v c up e ↦ go fuel (suc k) (going-more G v up e) (omega arith) (λ i m. elim (ℕ-discrete i k) [
+          | yes z ↦ rw z (record { chosen = rw e c; up = rw e up })
+          | no z ↦ M i (omega arith)
+        ])
+        | stayed h e ↦ (k, record { going = G; moves = M; last = stopped G e; stuck = h })
+      ]
+
   -- ---- the trail
 
   pub stood-length : (n : ℕ) → length (stood points corners begins d start n) ≡ n
@@ -91,3 +120,13 @@ module _ (points : List ℤ) (corners begins : List ℕ) (d : Direction) (start 
       let xs = stood points corners begins d start k in
       rw (drop-cons trail k 0 l) (set-at xs (getD trail k 0) (drop (suc k) trail) (walk k .spot .vertex) k (stood-length k)
       ∙ sym (append-snoc xs (walk k .spot .vertex) (drop (suc k) trail)))
+
+  pub stood-at : (n i : ℕ) → i < n → getD (stood points corners begins d start n) i 0 ≡ walk i .spot .vertex
+  unfolding stood
+  stood-at zero i l = absurd (omega arith)
+  stood-at (suc n) i l =
+      let xs = stood points corners begins d start n in
+      elim (ℕ-discrete i n) [
+        | yes z ↦ rw z (getD-at xs (walk n .spot .vertex) [] 0 n (stood-length n))
+        | no z ↦ List·getD-append xs (walk n .spot .vertex ∷ []) 0 i (rw (stood-length n) (omega arith)) ∙ stood-at n i (omega arith)
+      ]

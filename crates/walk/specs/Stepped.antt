@@ -12,7 +12,7 @@ use lib.Signed.{ltZ, _≤ℤ_, _<ℤ_, ≤ℤ-refl}
 use lib.ListN.{length}
 use borrow.Author.Tests.{ltb-true, ltb-false, eqb-true, not-true, not-false}
 use Rattle.whole.specs.Order.{lt→le, eq→le, ≤-trans, clash, le-or-lt, ltZ-true, true-ltZ, ltZ-false, false-ltZ}
-use Rattle.whole.specs.First.{firstBelow, anyBelow, never, first-holds, none-all, hit, any-is, any-none, any-false}
+use Rattle.whole.specs.First.{firstBelow, anyBelow, never, first-holds, before-first, none-all, hit, any-is, any-none, any-false}
 use Rattle.whole.specs.Count.{both, is-false}
 use Rattle.space.specs.Points.{vertices, Vertex}
 use Rattle.tables.specs.Tables.{from, to}
@@ -74,6 +74,11 @@ module _ (points : List ℤ) (corners begins : List ℕ) (d : Direction) where
   pub record Highest (v u : ℕ) : Type 0 where
     pub neighbour : near v u ≡ true
     pub top : (w : ℕ) → Vertex points w → near v w ≡ true → h w ≤ℤ h u
+
+  -- "the highest neighbour, the lowest number among equals"
+  pub record Chosen (v u : ℕ) : Type 0 where
+    pub highest : Highest v u
+    pub lowest : (k : ℕ) → k < u → Highest v k → ⊥
 
   highest-is : {v u : ℕ} → Highest v u → isHighest points corners begins d v u ≡ true
   highest-is {v} {u} H = rw (
@@ -139,7 +144,7 @@ module _ (points : List ℤ) (corners begins : List ℕ) (d : Direction) where
   -- ---- what a step does, in words
 
   pub data Stepped (s : Standing) (r : Standing) : Type 0 where
-    moved : (u : ℕ) → Vertex points u → Highest (s .spot .vertex) u → h (s .spot .vertex) <ℤ h u → r ≡ moveTo points corners begins d u s → Stepped s r
+    moved : (u : ℕ) → Vertex points u → Chosen (s .spot .vertex) u → h (s .spot .vertex) <ℤ h u → r ≡ moveTo points corners begins d u s → Stepped s r
     stayed : ((w : ℕ) → Vertex points w → near (s .spot .vertex) w ≡ true → h w ≤ℤ h (s .spot .vertex)) → r ≡ s → Stepped s r
 
   pub stepped : (s : Standing) → Stepped s (step points corners begins d s)
@@ -155,12 +160,17 @@ module _ (points : List ℤ) (corners begins : List ℕ) (d : Direction) where
       u : ℕ
       u = firstBelow f n
 
-      pick : (t : Bool) → isHigher points d u (s .spot .vertex) ≡ t → Vertex points u → Highest (s .spot .vertex) u → Stepped s (cond t (moveTo points corners begins d u s) s)
-      pick true e l H = moved u l H (ltZ-true _ _ e) refl
-      pick false e l H = stayed (λ w k m. ≤-trans _ _ _ (H .top w k m) (ltZ-false _ _ e)) refl
+      pick : (t : Bool) → isHigher points d u (s .spot .vertex) ≡ t → Vertex points u → Chosen (s .spot .vertex) u → Stepped s (cond t (moveTo points corners begins d u s) s)
+      pick true e l C = moved u l C (ltZ-true _ _ e) refl
+      pick false e l C = stayed (λ w k m. ≤-trans _ _ _ (C .highest .top w k m) (ltZ-false _ _ e)) refl
 
       go : (t : Bool) → anyBelow f n ≡ t → Stepped s (cond t (moveUp points corners begins d u s) s)
-      go true e = let l = ltb-true u n e in pick (isHigher points d u (s .spot .vertex)) refl l (is-highest (s .spot .vertex) u (first-holds f n l))
+      go true e =
+          let l = ltb-true u n e in
+          pick (isHigher points d u (s .spot .vertex)) refl l (record {
+            highest = is-highest (s .spot .vertex) u (first-holds f n l);
+            lowest = λ k b H. true≢false (sym (highest-is H) ∙ before-first f n k b);
+          })
       go false e = stayed (λ w k m. elim (greatest (near (s .spot .vertex)) h n) [
         | nowhere none ↦ absurd (true≢false (sym m ∙ none w k))
         | at x l i top ↦ absurd (true≢false (sym (highest-is (record { neighbour = i; top = top })) ∙ any-false f n e x l))
