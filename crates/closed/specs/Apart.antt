@@ -46,13 +46,13 @@ module _ {corners begins : List ℕ} (L : Laid corners begins) (P : Paired corne
   pub some-facet : 0 < facets begins
   some-facet = omega (arith, L .some)
 
-  flooded-only : {f : ℕ} → at (flooded corners begins) f ≡ true → Reached corners begins f
-  unfolding flooded
-  flooded-only e = only (length corners) (facets begins) (homeOf begins) (beyond corners begins) beyond-facet e
-
   flooded-all : {f : ℕ} → Reached corners begins f → at (flooded corners begins) f ≡ true
   unfolding flooded
   flooded-all r = all (length corners) (facets begins) (homeOf begins) (beyond corners begins) beyond-facet some-facet r
+
+  flooded-only : {f : ℕ} → at (flooded corners begins) f ≡ true → Reached corners begins f
+  unfolding flooded
+  flooded-only e = only (length corners) (facets begins) (homeOf begins) (beyond corners begins) beyond-facet e
 
   -- APART finds nothing exactly where every facet is reached
   pub apart-means : apart corners begins ≡ Nothing → (f : ℕ) → f < facets begins → Reached corners begins f
