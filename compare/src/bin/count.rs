@@ -87,7 +87,7 @@ fn wound(size: usize) -> Tables {
             [(8000.0 * angle.cos()).round() as i32, (8000.0 * angle.sin()).round() as i32]
         })
         .collect();
-    solids::bipyramid(&waist, 8000, -8000).tables()
+    solids::bipyramid(&waist, 8000, 8000).tables()
 }
 
 fn outline_of(rng: &mut Rng, count: usize) -> Vec<i32> {
