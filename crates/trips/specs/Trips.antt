@@ -9,7 +9,7 @@ use lib.Dec.{ltb, eqb, lit<}
 use lib.IntN.{ℤ}
 use lib.ListN.{length, getD, take, List·getD-eq-default}
 use native.Mathlib.Decide.{decLt}
-use borrow.Author.Tests.{le-ltb, ltb-false, eqb-true, leb-false, not-false}
+use borrow.Author.Tests.{le-ltb, eqb-true, ne-eqb, leb-false, not-false}
 use Rattle.whole.specs.First.{anyBelow}
 use Rattle.whole.specs.Count.{neither}
 use Rattle.space.specs.Points.{vertices}
@@ -85,6 +85,20 @@ module _ (tape : List ℕ) (points : List ℤ) (corners begins : List ℕ) where
       let g = beginsAt tape (7 * a .v) (a .f + 1) in
       rw (a .is, take-over p points (a .v * 3) (length-points-at tape 0 (a .v)), take-over c corners (a .c) (w .corners), take-over g begins (a .f + 1) (length-listed _ (a .f + 1)))
       (read-taped b (a .read))
+
+  -- "Each refusal .. alters no byte of what was lent"
+  pub refused-unchanged : (reading tape points corners begins .number ≡ 0 → ⊥)
+      → (pointsAfter tape points corners begins ≡ points) × (cornersAfter tape points corners begins ≡ corners) × (beginsAfter tape points corners begins ≡ begins)
+  refused-unchanged n = go (outcome tape points corners begins) refl
+    where
+      go : (o : Outcome) → outcome tape points corners begins ≡ o
+          → (pointsAfter tape points corners begins ≡ points) × (cornersAfter tape points corners begins ≡ corners) × (beginsAfter tape points corners begins ≡ begins)
+      go (Read v f c) e = absurd (n (ap (λ (o : Outcome). answerOf o .number) e))
+      go (Refused number offset) e = rw e (refl, refl, refl)
+
+pub refused-unwritten : (points : List ℤ) (corners begins buffer : List ℕ) → (written points corners begins buffer .number ≡ 0 → ⊥)
+    → bufferAfter points corners begins buffer ≡ buffer
+refused-unwritten points corners begins buffer n = rw (ne-eqb (written points corners begins buffer .number) 0 n)
 
 -- ---- tables in order are tables that a tape holds
 
