@@ -1,5 +1,5 @@
 -- Both round trips, said of what the reader and the writer promise. Assumes nothing.
-use mathlib.Core.Path.{_≡_, refl, sym, ap, _∙_}
+use mathlib.Core.Path.{_≡_, refl, ap, _∙_}
 use mathlib.Core.Bool.{Bool, true, false, not, _||_}
 use mathlib.Core.List.{List}
 use Prim.Native.Nat.{ℕ, _+_, _*_, _/_, _%_, _≤_, _<_}
@@ -25,11 +25,11 @@ use Rattle.tape.specs.Over.{over, take-over}
 use Rattle.tape.specs.Records.{parted, length-facet}
 use Rattle.tape.specs.Tape.{tape}
 use Rattle.tape.specs.Reading.{readTape, pointsAt, cornersAt, beginsAt, length-points-at}
-use Rattle.tape.specs.Whole.{Whole, read-whole, whole-read, refused-number}
+use Rattle.tape.specs.Whole.{read-whole, whole-read, refused-number}
 use Rattle.tape.specs.declared.Outcome.{Outcome}
 use Rattle.tape.specs.declared.Outcome.the-variants.{Read, Refused}
 use Rattle.reader.specs.Answer.{answerOf, noRoom, outcome, reading, pointsAfter, cornersAfter, beginsAfter}
-use Rattle.reader.specs.Room.{Roomy, with-room}
+use Rattle.reader.specs.Room.{with-room}
 use Rattle.writer.specs.Answer.{spaced, written, bufferAfter}
 use Rattle.writer.specs.InOrder.{InOrder, passes, laid, placed}
 use Rattle.trips.specs.Taped.{Sixteen, Holds, Taped}
