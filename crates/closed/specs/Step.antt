@@ -1,18 +1,18 @@
 -- The step round a vertex: across the edge that leaves it, and on to the next edge of that facet, which leaves it again. Assumes nothing.
-use mathlib.Core.Path.{_≡_, refl, sym, ap, _∙_}
-use mathlib.Core.Bool.{Bool, true}
+use mathlib.Core.Path.{_≡_, sym, ap, _∙_}
 use mathlib.Core.List.{List}
 use Prim.Native.Nat.{ℕ, _+_, _-_, _<_}
 use native.Mathlib.Omega.{arith}
 use native.Mathlib.Decide.{ℕ-discrete}
-use lib.ListN.{length}
+use lib.ListN.{length, getD}
 use Rattle.whole.specs.Orbit.{Steps}
 use Rattle.tables.specs.Tables.{begin, end, homeOf, nextOf, from}
 use Rattle.tables.specs.Size.{Laid}
 use Rattle.tables.specs.Places.{In, home, next-below, next-home, next-once, next-up, next-wrap, in-facet}
+use Rattle.edges.specs.Homes.{Homes}
 use Rattle.edges.specs.Chains.{leaves}
 use Rattle.edges.specs.Pair.{Paired}
-use Rattle.edges.specs.Across.{acrossOf, across, across-once, across-twice}
+use Rattle.edges.specs.Across.{acrossOf, across, across-once, across-twice, Across}
 
 unfoldable pub stepOf : List ℕ → List ℕ → ℕ → ℕ
 stepOf corners begins p = nextOf begins (acrossOf corners begins p)
@@ -68,3 +68,14 @@ module _ {corners begins : List ℕ} (L : Laid corners begins) (P : Paired corne
     holds = λ p l e. rw (step-leaves l) e;
     once = λ p q l m e f. step-once l m;
   }
+
+-- ---- what the code's tables hold: the facet of each place, and the place across each edge
+
+pub record Beyond (corners begins home across : List ℕ) : Type 0 where
+  pub homes : Homes corners begins home
+  pub crossed : Across corners begins across
+
+pub step-entry : {corners begins home across : List ℕ} {p : ℕ} → Beyond corners begins home across → p < length corners
+    → nextOf begins (getD across p 0) ≡ stepOf corners begins p
+unfolding stepOf
+step-entry {begins = begins} {p = p} B l = ap (nextOf begins) (B .crossed .filled .at p l)

@@ -6,3 +6,4 @@ pub mod Index
 pub mod Flat
 pub mod Pair
 pub mod Across
+pub mod Neighbours

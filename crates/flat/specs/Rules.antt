@@ -50,7 +50,7 @@ module _ (points : List ℤ) (part : List ℕ) where
   unfolding isBent
   bent-start = none-more (none-more (none-0 (isBent points part)) refl) refl
 
-  bent-third : isBent points part 2 ≡ inLine points (getD part 0 0) (getD part 1 0) (getD part 2 0)
+  pub bent-third : isBent points part 2 ≡ inLine points (getD part 0 0) (getD part 1 0) (getD part 2 0)
   unfolding isBent
   bent-third = refl
 

@@ -63,3 +63,11 @@ zero-on e = rw e
 
 pub above-zero : (x : ℤ) → isAbove x ≡ true → pos 0 <ℤ x
 above-zero x = ltZ-true (pos 0) x
+
+pub zero-of : (x : ℤ) → isZero x ≡ true → x ≡ pos 0
+zero-of x e = go (isBelow x) (isAbove x) refl refl e
+  where
+    go : (t u : Bool) → isBelow x ≡ t → isAbove x ≡ u → cond t false (not u) ≡ true → x ≡ pos 0
+    go true u b a e = absurd (true≢false (sym e))
+    go false true b a e = absurd (true≢false (sym e))
+    go false false b a e = zero-is x b a

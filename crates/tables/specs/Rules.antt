@@ -1,18 +1,23 @@
 -- Numbers 2 to 5: RANGE, INDEX, REPEAT, UNUSED, each by its row of the sheet's table.
-use mathlib.Core.Bool.{Bool, cond, not, _||_}
+use mathlib.Core.Path.{_≡_}
+use mathlib.Core.Bool.{Bool, false, cond, not, _||_}
 use mathlib.Core.List.{List, []}
-use Prim.Native.Nat.{ℕ}
+use Prim.Native.Nat.{ℕ, zero, suc, _<_}
+use native.Mathlib.Omega.{arith}
 use lib.Dec.{leb, ltb}
 use lib.IntN.{ℤ}
 use lib.ListN.{length, getD}
 use Rattle.whole.specs.First.{anyBelow}
-use Rattle.space.specs.Range.{isOut}
-use Rattle.space.specs.Points.{vertices, coordOf}
+use Rattle.whole.specs.Count.{neither}
+use Rattle.whole.specs.Bounds.{_within_}
+use Rattle.space.specs.Range.{limit, isOut, in-range, not-out}
+use Rattle.space.specs.Points.{vertices, coordOf, Ranged}
 use Rattle.tables.specs.Tables.{facets, facetOf, isAt, again}
 use Rattle.tables.specs.Size.{isSize}
-use Rattle.tables.specs.Found.{lowest}
+use Rattle.tables.specs.Found.{lowest, lowest-none, nowhere-is}
 use Rattle.tables.specs.Facets.{inFacets}
 use Rattle.tables.specs.declared.Found.{Found}
+use Rattle.tables.specs.declared.Found.the-variants.{Nothing}
 
 -- "For tables that pass SIZE and a facet number below F, the facet look-up hands back that part of the lent run itself. Otherwise .. the empty part"
 abbrev pub lookUp : List ℤ → List ℕ → List ℕ → ℕ → List ℕ
@@ -42,3 +47,20 @@ unnamed corners v = not (anyBelow (isAt corners v) (length corners))
 
 abbrev pub unused : ℕ → List ℕ → Found
 unused n corners = lowest n (unnamed corners)
+
+-- RANGE finds nothing exactly where each coordinate is within its limits
+pub in-limits : (points : List ℤ) → range points ≡ Nothing → Ranged points
+in-limits points e v k l h =
+    let (x, f) = neither (isOut (coordOf points v 0)) _ (lowest-none (vertices points) (outOfRange points) e v l) in
+    let (y, z) = neither (isOut (coordOf points v 1)) (isOut (coordOf points v 2)) f in
+    axis k h x y z
+  where
+    axis : (k : ℕ) → k < 3 → isOut (coordOf points v 0) ≡ false → isOut (coordOf points v 1) ≡ false → isOut (coordOf points v 2) ≡ false
+        → coordOf points v k within limit
+    axis zero h x y z = in-range _ x
+    axis (suc zero) h x y z = in-range _ y
+    axis (suc (suc zero)) h x y z = in-range _ z
+    axis (suc (suc (suc k))) h x y z = absurd (omega arith)
+
+pub limits-in : (points : List ℤ) → Ranged points → range points ≡ Nothing
+limits-in points R = nowhere-is (λ v l. rw (not-out _ (R v 0 l (omega arith)), not-out _ (R v 1 l (omega arith)), not-out _ (R v 2 l (omega arith))))

@@ -308,12 +308,12 @@ pub fn unused(corners: &[u16], n: usize) -> Found
     ensures { λ r. ⌜ r ≡ unused n (now (corners .entry)) ⌝ }
 {
     let named = marks(corners);
-    let mut v = 0;
-    while v < n {
-        if named[v] == 0 {
-            return Found::At(v, 0);
+    let mut vertex = 0;
+    while vertex < n {
+        if named[vertex] == 0 {
+            return Found::At(vertex, 0);
         }
-        v += 1;
+        vertex += 1;
     }
     Found::Nothing
 }

@@ -10,10 +10,10 @@ use Rattle.tables.proofs.unused.Statement.{statement}
 use Rattle.tables.proofs.unused.Tie as tie
 
 abbrev Inv-loop : tie.InvT-loop
-Inv-loop corners n named v₀ v = (v ≤ n) × None (unnamed corners) v
+Inv-loop corners n named vertex₀ vertex = (vertex ≤ n) × None (unnamed corners) vertex
 
 abbrev μ-loop : tie.MeasureT-loop
-μ-loop corners n named v₀ v = n - v
+μ-loop corners n named vertex₀ vertex = n - vertex
 
 marks-requires : tie.Need-marks-requires Inv-loop μ-loop
 marks-requires c κs =
@@ -24,14 +24,14 @@ returns : tie.Need-returns Inv-loop μ-loop
 returns c =
     let l = c .before .before in
     hit (λ v. At v 0) Nothing (l .loop .inv .1)
-    (no-mark (l .before .marks .ensures) (l .loop .v) (omega (arith, l .before .before .before .pre .few)) (c .if1 .taken)) (omega arith)
+    (no-mark (l .before .marks .ensures) (l .loop .vertex) (omega (arith, l .before .before .before .pre .few)) (c .if1 .taken)) (omega arith)
 
 loop-again : tie.Need-loop-again Inv-loop μ-loop
 loop-again c =
     let l = c .before .before in (
       omega arith,
       none-more (l .loop .inv .1)
-          (a-mark (l .before .marks .ensures) (l .loop .v) (omega (arith, l .before .before .before .pre .few)) (c .if1 .left)),
+          (a-mark (l .before .marks .ensures) (l .loop .vertex) (omega (arith, l .before .before .before .pre .few)) (c .if1 .left)),
     )
 
 pub unused-spec : {M : Type 1} → statement M

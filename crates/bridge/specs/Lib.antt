@@ -1,0 +1,3 @@
+-- The lent tables as the surface of which the theorems on solids speak.
+pub mod Surface
+pub mod Closed

@@ -1,0 +1,49 @@
+-- "Answer numbers of the solid judge": the one answer to three tables.
+use mathlib.Core.Bool.{cond}
+use mathlib.Core.List.{List}
+use Prim.Native.Nat.{ℕ}
+use lib.IntN.{ℤ}
+use Rattle.space.specs.Points.{vertices}
+use Rattle.tables.specs.Tables.{facets, edges}
+use Rattle.tables.specs.Size.{isSize}
+use Rattle.tables.specs.Rules.{range, index, repeat, unused}
+use Rattle.tables.specs.Answer.{accepted, refused, orElse}
+use Rattle.tables.specs.declared.Answer.{Answer}
+use Rattle.edges.specs.Pair.{pair}
+use Rattle.closed.specs.Ring.{ring}
+use Rattle.closed.specs.Apart.{apart}
+use Rattle.flat.specs.Rules.{bent, turn}
+use Rattle.convex.specs.Rules.{reflex, outside}
+
+-- "The lowest number that applies anywhere in the tables wins. Within it, the first place wins"; "accepted: none below applies: V, E, F"
+abbrev pub fromBent : List ℤ → List ℕ → List ℕ → Answer
+fromBent points corners begins =
+    orElse 9 (bent points corners begins)
+    (orElse 10 (turn points corners begins)
+    (orElse 11 (reflex points corners begins)
+    (orElse 12 (outside points corners begins)
+    (accepted (vertices points) (edges corners) (facets begins)))))
+
+abbrev pub fromRing : List ℤ → List ℕ → List ℕ → Answer
+fromRing points corners begins =
+    orElse 7 (ring (vertices points) corners begins)
+    (orElse 8 (apart corners begins)
+    (fromBent points corners begins))
+
+abbrev pub fromPair : List ℤ → List ℕ → List ℕ → Answer
+fromPair points corners begins = orElse 6 (pair corners begins) (fromRing points corners begins)
+
+abbrev pub fromRepeat : List ℤ → List ℕ → List ℕ → Answer
+fromRepeat points corners begins =
+    orElse 4 (repeat corners begins)
+    (orElse 5 (unused (vertices points) corners)
+    (fromPair points corners begins))
+
+abbrev pub fromRange : List ℤ → List ℕ → List ℕ → Answer
+fromRange points corners begins =
+    orElse 2 (range points)
+    (orElse 3 (index (vertices points) corners begins)
+    (fromRepeat points corners begins))
+
+unfoldable pub judged : List ℤ → List ℕ → List ℕ → Answer
+judged points corners begins = cond (isSize points corners begins) (refused 1 0 0) (fromRange points corners begins)

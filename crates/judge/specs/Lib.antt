@@ -1,0 +1,5 @@
+-- The judge's answer, and what it means.
+pub mod Judge
+pub mod Stages
+pub mod Meaning
+pub mod Rows

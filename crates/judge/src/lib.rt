@@ -1,0 +1,116 @@
+ghost use mathlib.Core.Path.{_≡_};
+ghost use Rattle.edges.specs.Index.{Index};
+ghost use Rattle.edges.specs.Across.{Across};
+ghost use Rattle.flat.specs.Facet.{Measured};
+ghost use Rattle.judge.specs.Judge.{fromBent, fromRing, fromPair, fromRepeat, judged};
+ghost use Rattle.judge.specs.Stages.{UpTo5, UpTo6, UpTo8};
+
+// Numbers 9 to 12.
+fn from_bent(
+    points: &[i32],
+    corners: &[u16],
+    begins: &[u16],
+    home: &[u16; 6144],
+    ends: &[u16; 6144],
+    last: &[u16; 1024],
+    back: &[u16; 6144],
+    across: &[u16; 6144],
+) -> tables::Answer
+    requires { ⌜ UpTo8 (now points) (now corners) (now begins) ⌝ }
+    requires { ⌜ Index (now corners) (now begins) (now home) (now ends) (now last) (now back) × Across (now corners) (now begins) (now across) ⌝ }
+    ensures { λ r. ⌜ r ≡ fromBent (now (points .entry)) (now (corners .entry)) (now (begins .entry)) ⌝ }
+{
+    let bent = flat::bent(points, corners, begins);
+    if let tables::Found::At(f, p) = bent {
+        return tables::Answer::refused(9, f, p);
+    }
+    let turn = flat::turn(points, corners, begins);
+    if let tables::Found::At(f, p) = turn {
+        return tables::Answer::refused(10, f, p);
+    }
+    let reflex = convex::reflex(points, corners, begins, home, across);
+    if let tables::Found::At(f, p) = reflex {
+        return tables::Answer::refused(11, f, p);
+    }
+    let outside = convex::outside(points, corners, begins, ends, last, back);
+    if let tables::Found::At(f, v) = outside {
+        return tables::Answer::refused(12, f, v);
+    }
+    tables::Answer::accepted(points.len() / 3, corners.len() / 2, begins.len() - 1)
+}
+
+// Numbers 7 to 12.
+fn from_ring(
+    points: &[i32],
+    corners: &[u16],
+    begins: &[u16],
+    home: &[u16; 6144],
+    ends: &[u16; 6144],
+    last: &[u16; 1024],
+    back: &[u16; 6144],
+) -> tables::Answer
+    requires { ⌜ UpTo6 (now points) (now corners) (now begins) ⌝ }
+    requires { ⌜ Index (now corners) (now begins) (now home) (now ends) (now last) (now back) ⌝ }
+    ensures { λ r. ⌜ r ≡ fromRing (now (points .entry)) (now (corners .entry)) (now (begins .entry)) ⌝ }
+{
+    let across = edges::across(corners, begins, ends, last, back);
+    let ring = closed::ring(corners, begins, home, last, back, &across, points.len() / 3);
+    if let tables::Found::At(v, z) = ring {
+        return tables::Answer::refused(7, v, z);
+    }
+    let apart = closed::apart(corners, begins, home, &across);
+    if let tables::Found::At(f, z) = apart {
+        return tables::Answer::refused(8, f, z);
+    }
+    from_bent(points, corners, begins, home, ends, last, back, &across)
+}
+
+// Numbers 6 to 12: the index of the edges is built once and serves them all.
+fn from_pair(points: &[i32], corners: &[u16], begins: &[u16]) -> tables::Answer
+    requires { ⌜ UpTo5 (now points) (now corners) (now begins) ⌝ }
+    ensures { λ r. ⌜ r ≡ fromPair (now (points .entry)) (now (corners .entry)) (now (begins .entry)) ⌝ }
+{
+    let home = edges::homes(corners, begins);
+    let ends = edges::ends(corners, begins, &home);
+    let mut last = [0u16; 1024];
+    let back = edges::chains(corners, &mut last);
+    let pair = edges::pair(corners, begins, &home, &ends, &last, &back);
+    if let tables::Found::At(f, p) = pair {
+        return tables::Answer::refused(6, f, p);
+    }
+    from_ring(points, corners, begins, &home, &ends, &last, &back)
+}
+
+// Numbers 4 to 12.
+fn from_repeat(points: &[i32], corners: &[u16], begins: &[u16]) -> tables::Answer
+    requires { ⌜ Measured (now points) (now corners) (now begins) ⌝ }
+    ensures { λ r. ⌜ r ≡ fromRepeat (now (points .entry)) (now (corners .entry)) (now (begins .entry)) ⌝ }
+{
+    let repeat = tables::repeat(corners, begins);
+    if let tables::Found::At(f, p) = repeat {
+        return tables::Answer::refused(4, f, p);
+    }
+    let unused = tables::unused(corners, points.len() / 3);
+    if let tables::Found::At(v, z) = unused {
+        return tables::Answer::refused(5, v, z);
+    }
+    from_pair(points, corners, begins)
+}
+
+// The judge of a solid: its one answer to the three lent tables, which are only read.
+pub fn judge(points: &[i32], corners: &[u16], begins: &[u16]) -> tables::Answer
+    ensures { λ r. ⌜ r ≡ judged (now (points .entry)) (now (corners .entry)) (now (begins .entry)) ⌝ }
+{
+    if tables::size(points, corners, begins) {
+        return tables::Answer::refused(1, 0, 0);
+    }
+    let range = tables::range(points);
+    if let tables::Found::At(v, z) = range {
+        return tables::Answer::refused(2, v, z);
+    }
+    let index = tables::index(corners, begins, points.len() / 3);
+    if let tables::Found::At(f, p) = index {
+        return tables::Answer::refused(3, f, p);
+    }
+    from_repeat(points, corners, begins)
+}

@@ -1,0 +1,77 @@
+mod left;
+mod points;
+mod range;
+mod wound;
+
+use left::first_not_left;
+use range::first_out;
+use wound::second_far;
+ghost use mathlib.Core.Path.{_≡_};
+ghost use Rattle.space.specs.Range.{InRange};
+ghost use Rattle.outline.specs.Outline.{few, judgedTurns, judgedOutline};
+
+// The answer to an outline: the sheet's number, and the count or a point's number.
+pub struct Verdict {
+    pub number: u16,
+    pub place: usize,
+}
+
+// Whether so many numbers are not in pairs, or their points too few or too many.
+fn is_few(numbers: usize) -> bool
+    ensures { λ r. ⌜ r ≡ few numbers ⌝ }
+{
+    if numbers % 2 != 0 {
+        return true;
+    }
+    if numbers / 2 < 3 {
+        return true;
+    }
+    4096 < numbers / 2
+}
+
+// The answer to points within the limits: LEFT, WOUND or acceptance.
+fn judge_turns(points: &[i32]) -> Verdict
+    requires { ⌜ InRange (now points) ⌝ }
+    ensures { λ r. ⌜ r ≡ judgedTurns (now (points .entry)) ⌝ }
+{
+    let n = points.len() / 2;
+    let straight = first_not_left(points);
+    if straight < n {
+        return Verdict {
+            number: 25,
+            place: straight,
+        };
+    }
+    let again = second_far(points);
+    if again < n {
+        return Verdict {
+            number: 26,
+            place: again,
+        };
+    }
+    Verdict {
+        number: 0,
+        place: n,
+    }
+}
+
+// The answer to the outline whose points are the pairs x, y of the lent numbers. The work is linear, after Theorem 5 of document 001:
+// one pass for each of RANGE, LEFT and WOUND.
+pub fn judge_outline(points: &[i32]) -> Verdict
+    ensures { λ r. ⌜ r ≡ judgedOutline (now (points .entry)) ⌝ }
+{
+    if is_few(points.len()) {
+        return Verdict {
+            number: 24,
+            place: 0,
+        };
+    }
+    let out = first_out(points);
+    if out < points.len() / 2 {
+        return Verdict {
+            number: 2,
+            place: out,
+        };
+    }
+    judge_turns(points)
+}

@@ -1,0 +1,40 @@
+/* The functions of the proved library for C and Rust. Link target/staticlib/libexports.a, which `rt staticlib exports` writes.
+ * A slice is a pointer and its number of entries; it must be valid for that many, and no two lent for writing may overlap.
+ * Each function takes every input, and returns the sheet's answer number. Where `out` has fewer entries than the
+ * function has numbers, nothing is written to it. */
+#ifndef SOLID_H
+#define SOLID_H
+
+#include <stddef.h>
+#include <stdint.h>
+
+#ifdef __cplusplus
+extern "C" {
+#endif
+
+/* Judges a solid. out, 3 numbers: V, E, F where 0 is returned, else the places. */
+uint16_t solid_judge(const int32_t *points, size_t points_len, const uint16_t *corners, size_t corners_len,
+                     const uint16_t *begins, size_t begins_len, int64_t *out, size_t out_len);
+
+/* Walks on a solid. out, 6 numbers: the judge's three places, then vertex, height, moves. The trail is lent for V entries or more. */
+uint16_t solid_walk(const int32_t *points, size_t points_len, const uint16_t *corners, size_t corners_len,
+                    const uint16_t *begins, size_t begins_len, uint32_t start, int32_t dx, int32_t dy, int32_t dz,
+                    uint16_t *trail, size_t trail_len, int64_t *out, size_t out_len);
+
+/* Judges an outline, x and y in turn. out, 1 number: the count where 0 is returned, else the place. */
+uint16_t solid_outline(const int32_t *points, size_t points_len, int64_t *out, size_t out_len);
+
+/* Reads a tape into tables lent with at least 3,072, 6,144 and 2,049 entries. out, 3 numbers: V, F, corners, or the offset, 0, 0. */
+uint16_t solid_read_tape(const uint8_t *tape, size_t tape_len, int32_t *points, size_t points_len, uint16_t *corners,
+                         size_t corners_len, uint16_t *begins, size_t begins_len, int64_t *out, size_t out_len);
+
+/* Writes the tape of tables. out, 3 numbers: the length, 0, 0 where 0 is returned, else the places. */
+uint16_t solid_write_tape(const int32_t *points, size_t points_len, const uint16_t *corners, size_t corners_len,
+                          const uint16_t *begins, size_t begins_len, uint8_t *buffer, size_t buffer_len, int64_t *out,
+                          size_t out_len);
+
+#ifdef __cplusplus
+}
+#endif
+
+#endif
