@@ -1,5 +1,5 @@
 -- The lent tables while facets are stored into them: each begins with what the records so far hold. Assumes nothing.
-use mathlib.Core.Path.{_≡_, refl, sym, ap, _∙_}
+use mathlib.Core.Path.{_≡_, sym, ap, _∙_}
 use mathlib.Core.List.{List, [], _∷_}
 use Prim.Native.Nat.{ℕ, _+_, _*_, _≤_, _<_}
 use native.Mathlib.Omega.{arith}
@@ -7,7 +7,7 @@ use lib.ListN.{length, getD, take, set}
 use lib.Seq.{sets}
 use Rattle.tables.specs.Tables.{mostFacets, mostCorners, mostSides}
 use Rattle.tape.specs.Joined.{joined-0, joined-more, length-listed}
-use Rattle.tape.specs.Over.{Wrote, wrote, wrote-none, stored, over, take-over}
+use Rattle.tape.specs.Over.{Wrote, wrote-none, stored, over, take-over}
 use Rattle.tape.specs.Reading.{place, numbersAt, facetFrom, cornersAt, beginsAt}
 use Rattle.tape.specs.Whole.{Facets, place-0, place-more, corners-more, length-from, facet-inside, facet-short}
 

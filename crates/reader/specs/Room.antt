@@ -7,7 +7,7 @@ use native.Mathlib.Omega.{arith}
 use lib.Dec.{ltb}
 use lib.IntN.{ℤ}
 use lib.ListN.{length}
-use borrow.Author.Tests.{ltb-false, le-ltb}
+use borrow.Author.Tests.{ltb-false}
 use Rattle.whole.specs.Count.{neither}
 use Rattle.tape.specs.Over.{over}
 use Rattle.tape.specs.Reading.{readTape, pointsAt, cornersAt, beginsAt}

@@ -23,7 +23,7 @@ pub struct Reading {
 }
 
 // ORDER, LIMIT and CUT at a point's record.
-pub fn look_point(tape: &[u8], at: usize, v: usize, f: usize) -> tape::Next
+fn look_point(tape: &[u8], at: usize, v: usize, f: usize) -> tape::Next
     requires { ⌜ at < length (now tape) ⌝ }
     ensures { λ r. ⌜ r ≡ pointAt (now (tape .entry)) at v f ⌝ }
 {
@@ -40,7 +40,7 @@ pub fn look_point(tape: &[u8], at: usize, v: usize, f: usize) -> tape::Next
 }
 
 // LIMIT and CUT at the record of a facet with n corners.
-pub fn look_facet(tape: &[u8], at: usize, f: usize, c: usize, n: usize) -> tape::Next
+fn look_facet(tape: &[u8], at: usize, f: usize, c: usize, n: usize) -> tape::Next
     requires { ⌜ (at < length (now tape)) × (c ≤ mostCorners) × (n ≤ mostSides) ⌝ }
     ensures { λ r. ⌜ r ≡ facetAt (now (tape .entry)) at f c n ⌝ }
 {
@@ -137,7 +137,7 @@ fn keep_point(points: &mut [i32], p: usize, tape: &[u8], i: usize)
 }
 
 // The points of n records from `at` on.
-pub fn fill_points(tape: &[u8], at: usize, points: &mut [i32], n: usize)
+fn fill_points(tape: &[u8], at: usize, points: &mut [i32], n: usize)
     requires { ⌜ (at + 7 * n ≤ length (now tape)) × (n * 3 ≤ length (now points)) ⌝ }
     ensures { λ _. ⌜ now (points .exit) ≡ over (pointsAt (now (tape .entry)) at n) (now (points .entry)) ⌝ }
 {
@@ -173,7 +173,7 @@ fn store(corners: &mut [u16], c: usize, tray: &[u16], n: usize)
 }
 
 // The corners and the begins of n facets' records from `from` on.
-pub fn fill_facets(tape: &[u8], from: usize, corners: &mut [u16], begins: &mut [u16], n: usize)
+fn fill_facets(tape: &[u8], from: usize, corners: &mut [u16], begins: &mut [u16], n: usize)
     requires { ⌜ Facets (now tape) from n × (mostCorners ≤ length (now corners)) × (n < length (now begins)) ⌝ }
     ensures { λ _. ⌜ now (corners .exit) ≡ over (cornersAt (now (tape .entry)) from n) (now (corners .entry)) ⌝ }
     ensures { λ _. ⌜ now (begins .exit) ≡ over (beginsAt (now (tape .entry)) from (n + 1)) (now (begins .entry)) ⌝ }
@@ -195,7 +195,7 @@ pub fn fill_facets(tape: &[u8], from: usize, corners: &mut [u16], begins: &mut [
 }
 
 // Whether a lent table is too short, by how many entries each has.
-pub fn no_room(points: usize, corners: usize, begins: usize) -> bool
+fn no_room(points: usize, corners: usize, begins: usize) -> bool
     ensures { λ r. ⌜ r ≡ noRoom points corners begins ⌝ }
 {
     if points < POINT_ROOM {

@@ -9,7 +9,7 @@ use lib.ListN.{length, getD}
 use borrow.Author.Tests.{ltb-false, leb-false, eqb-true, eqb-false, le-ltb, lt-leb, eq-eqb, ne-eqb}
 use Rattle.tables.specs.Tables.{mostVertices, mostFacets, mostCorners, leastSides, mostSides}
 use Rattle.tape.specs.Little.{unsignedAt}
-use Rattle.tape.specs.Reading.{pointAt, facetAt, endAt, kindAt, lookAt}
+use Rattle.tape.specs.Reading.{pointAt, facetAt, endAt, lookAt}
 use Rattle.tape.specs.declared.Next.{Next}
 use Rattle.tape.specs.declared.Next.the-variants.{Point, Facet, End, Bad}
 

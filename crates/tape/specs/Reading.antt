@@ -62,7 +62,7 @@ after rest at v f c (Facet n) = rest (at + (1 + 2 * n)) v (f + 1) (c + n)
 after rest at v f c End = Read v f c
 after rest at v f c (Bad number offset) = Refused number offset
 
--- at most k records, each by the look of its layout
+-- at most k records, each by the look of its layout; k is enough (`refused-number`)
 unfoldable pub run : (ℕ → ℕ → ℕ → ℕ → Next) → ℕ → ℕ → ℕ → ℕ → ℕ → Outcome
 run look zero at v f c = Refused 0 0
 run look (suc k) at v f c = after (run look k) at v f c (look at v f c)

@@ -1,6 +1,6 @@
 -- A tape is read exactly when it is whole: its records stand one after the other, in order, within the limits. Assumes nothing.
 use mathlib.Core.Path.{_≡_, refl, sym, ap, _∙_}
-use mathlib.Core.List.{List, _++_}
+use mathlib.Core.List.{List}
 use Prim.Native.Nat.{ℕ, zero, suc, _+_, _-_, _*_, _≤_, _<_}
 use native.Mathlib.Omega.{arith}
 use native.Mathlib.Numerals.{add-one}
@@ -10,10 +10,9 @@ use Rattle.tables.specs.Tables.{mostVertices, mostFacets, mostCorners, leastSid
 use borrow.Author.Count.{below-more}
 use Rattle.tape.specs.Joined.{joined, joined-0, joined-more, joined-split, length-listed}
 use Rattle.tape.specs.Reading.{lookAt, after, run, readTape, place, facetFrom, cornersAt}
-use Rattle.tape.specs.Look.{IsPoint, IsFacet, IsEnd, Told, tells, is-point, is-facet, is-end}
+use Rattle.tape.specs.Look.{IsPoint, IsFacet, IsEnd, tells, is-point, is-facet, is-end}
 use Rattle.tape.specs.declared.Next.{Next}
 use Rattle.tape.specs.declared.Next.the-variants.{Point, Facet, End, Bad}
-use Rattle.tape.specs.declared.Outcome.{Outcome}
 use Rattle.tape.specs.declared.Outcome.the-variants.{Read, Refused}
 
 -- n facets' records stand from `at` on

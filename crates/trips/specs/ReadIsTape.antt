@@ -1,22 +1,22 @@
 -- A tape that is read is the tape of the tables that its records hold. Assumes nothing.
 use mathlib.Core.Path.{_≡_, refl, sym, ap, ap₂, _∙_}
 use mathlib.Core.List.{List, [], _∷_, _++_, append-assoc, append-nil}
-use Prim.Native.Nat.{ℕ, zero, suc, _+_, _-_, _*_, _/_, _≤_, _<_}
+use Prim.Native.Nat.{ℕ, zero, suc, _+_, _-_, _*_, _≤_, _<_}
 use native.Mathlib.Omega.{arith}
 use native.Mathlib.Numerals.{add-one}
 use native.Mathlib.Nat.{add-zero, mul-div-cancel}
 use lib.Dec.{lit<}
 use lib.IntN.{ℤ, pos}
-use lib.ListN.{length, getD, take, drop, length-append, List·getD-append}
+use lib.ListN.{length, getD, take, drop, List·getD-append}
 use lib.Seq.{drop-cons, drop-drop, take-add, take-all, getD-append-add, take-at, drop-at}
 use mir.Syntax.{w16}
 use mir.Val.{SFits}
 use mir.Facts.{sfits-lit}
 use Rattle.space.specs.Points.{vertices, coordOf}
-use Rattle.tables.specs.Tables.{facets, begin, end, sides, facetOf}
-use Rattle.tape.specs.Little.{Bytes, bytesOf, numberAt, unsignedAt, signedAt, signed, bits, bytes-number, number-fits, bits-signed, signed-fits}
+use Rattle.tables.specs.Tables.{facets, begin, sides, facetOf}
+use Rattle.tape.specs.Little.{Bytes, unsignedAt, bytes-number, number-fits, bits-signed, signed-fits}
 use Rattle.tape.specs.Joined.{joined, joined-0, joined-same, joined-split, length-listed, getD-listed}
-use Rattle.tape.specs.Records.{point, facet, framed, packed, bytes, pointOf, pointBytes, facetBytes, packed-append, packed-one, Placed, Parted}
+use Rattle.tape.specs.Records.{facet, framed, packed, bytes, pointOf, pointBytes, facetBytes, packed-append, packed-one, Placed, Parted}
 use Rattle.tape.specs.Tape.{ending, tape}
 use Rattle.tape.specs.Reading.{coordsAt, numbersAt, pointsAt, place, facetFrom, cornersAt, beginsAt, length-points-at}
 use Rattle.tape.specs.Whole.{Facets, Whole, place-0, place-more, place-rises, length-from, corners-more, facet-inside}

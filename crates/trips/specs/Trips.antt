@@ -1,5 +1,5 @@
 -- Both round trips, said of what the reader and the writer promise. Assumes nothing.
-use mathlib.Core.Path.{_≡_, refl, sym, ap, _∙_}
+use mathlib.Core.Path.{_≡_, refl, ap, _∙_}
 use mathlib.Core.Bool.{Bool, true, false, not, _||_}
 use mathlib.Core.List.{List}
 use Prim.Native.Nat.{ℕ, _+_, _*_, _/_, _%_, _≤_, _<_}
@@ -9,7 +9,7 @@ use lib.Dec.{ltb, eqb, lit<}
 use lib.IntN.{ℤ}
 use lib.ListN.{length, getD, take, List·getD-eq-default}
 use native.Mathlib.Decide.{decLt}
-use borrow.Author.Tests.{le-ltb, ltb-false, eqb-true, leb-false, not-false}
+use borrow.Author.Tests.{le-ltb, eqb-true, ne-eqb, leb-false, not-false}
 use Rattle.whole.specs.First.{anyBelow}
 use Rattle.whole.specs.Count.{neither}
 use Rattle.space.specs.Points.{vertices}
@@ -25,11 +25,11 @@ use Rattle.tape.specs.Over.{over, take-over}
 use Rattle.tape.specs.Records.{parted, length-facet}
 use Rattle.tape.specs.Tape.{tape}
 use Rattle.tape.specs.Reading.{readTape, pointsAt, cornersAt, beginsAt, length-points-at}
-use Rattle.tape.specs.Whole.{Whole, read-whole, whole-read, refused-number}
+use Rattle.tape.specs.Whole.{read-whole, whole-read, refused-number}
 use Rattle.tape.specs.declared.Outcome.{Outcome}
 use Rattle.tape.specs.declared.Outcome.the-variants.{Read, Refused}
 use Rattle.reader.specs.Answer.{answerOf, noRoom, outcome, reading, pointsAfter, cornersAfter, beginsAfter}
-use Rattle.reader.specs.Room.{Roomy, with-room}
+use Rattle.reader.specs.Room.{with-room}
 use Rattle.writer.specs.Answer.{spaced, written, bufferAfter}
 use Rattle.writer.specs.InOrder.{InOrder, passes, laid, placed}
 use Rattle.trips.specs.Taped.{Sixteen, Holds, Taped}
@@ -85,6 +85,20 @@ module _ (tape : List ℕ) (points : List ℤ) (corners begins : List ℕ) where
       let g = beginsAt tape (7 * a .v) (a .f + 1) in
       rw (a .is, take-over p points (a .v * 3) (length-points-at tape 0 (a .v)), take-over c corners (a .c) (w .corners), take-over g begins (a .f + 1) (length-listed _ (a .f + 1)))
       (read-taped b (a .read))
+
+  -- "Each refusal .. alters no byte of what was lent"
+  pub refused-unchanged : (reading tape points corners begins .number ≡ 0 → ⊥)
+      → (pointsAfter tape points corners begins ≡ points) × (cornersAfter tape points corners begins ≡ corners) × (beginsAfter tape points corners begins ≡ begins)
+  refused-unchanged n = go (outcome tape points corners begins) refl
+    where
+      go : (o : Outcome) → outcome tape points corners begins ≡ o
+          → (pointsAfter tape points corners begins ≡ points) × (cornersAfter tape points corners begins ≡ corners) × (beginsAfter tape points corners begins ≡ begins)
+      go (Read v f c) e = absurd (n (ap (λ (o : Outcome). answerOf o .number) e))
+      go (Refused number offset) e = rw e (refl, refl, refl)
+
+pub refused-unwritten : (points : List ℤ) (corners begins buffer : List ℕ) → (written points corners begins buffer .number ≡ 0 → ⊥)
+    → bufferAfter points corners begins buffer ≡ buffer
+refused-unwritten points corners begins buffer n = rw (ne-eqb (written points corners begins buffer .number) 0 n)
 
 -- ---- tables in order are tables that a tape holds
 

@@ -1,21 +1,18 @@
 -- "tables whose sizes, ranges and corner numbers are in order", and what such tables have. Assumes nothing.
 use mathlib.Core.Path.{_≡_, refl, sym, ap, _∙_}
-use mathlib.Core.Bool.{Bool, true, false, not, _||_}
+use mathlib.Core.Bool.{Bool, true, false}
 use mathlib.Core.List.{List}
-use Prim.Native.Nat.{ℕ, zero, suc, _+_, _*_, _≤_, _<_}
+use Prim.Native.Nat.{ℕ, _+_, _*_, _≤_, _<_}
 use native.Mathlib.Omega.{arith}
 use lib.IntN.{ℤ}
 use lib.ListN.{length}
 use borrow.Author.Tests.{lt-ltb, le-ltb, ne-eqb}
 use mir.Syntax.{w16}
 use Rattle.whole.specs.Bounds.{within-fits}
-use Rattle.whole.specs.Count.{neither}
-use Rattle.space.specs.Range.{isOut, in-range}
-use Rattle.space.specs.Points.{vertices, coordOf}
+use Rattle.space.specs.Points.{vertices}
 use Rattle.tables.specs.Tables.{mostVertices, mostFacets, mostCorners, facets}
 use Rattle.tables.specs.Size.{isSize, Laid, sized}
-use Rattle.tables.specs.Found.{lowest-none}
-use Rattle.tables.specs.Rules.{outOfRange, range, index}
+use Rattle.tables.specs.Rules.{range, index, in-limits}
 use Rattle.tables.specs.Answer.{accepted, refused}
 use Rattle.tables.specs.declared.Answer.{Answer}
 use Rattle.tables.specs.declared.Found.{Found}
@@ -66,25 +63,8 @@ module _ {points : List ℤ} {corners begins : List ℕ} (o : InOrder points cor
   pub placed : Placed points
   placed = record {
     few = sized points corners begins (o .sizes) .few;
-    fits = λ v k l h. within-fits {w = w16} (in-range (coordOf points v k) (coord v k l h)) tt;
+    fits = λ v k l h. within-fits {w = w16} (in-limits points (o .ranges) v k l h) tt;
   }
-    where
-      -- the coordinates of a vertex, one by one
-      three : (v : ℕ) → outOfRange points v ≡ false → (k : ℕ) → k < 3 → isOut (coordOf points v k) ≡ false
-      three v e =
-          let a = neither (isOut (coordOf points v 0)) (isOut (coordOf points v 1) || isOut (coordOf points v 2)) e in
-          let b = neither (isOut (coordOf points v 1)) (isOut (coordOf points v 2)) (a .1) in
-          pick (a .0) (b .0) (b .1)
-        where
-          pick : isOut (coordOf points v 0) ≡ false → isOut (coordOf points v 1) ≡ false → isOut (coordOf points v 2) ≡ false
-              → (k : ℕ) → k < 3 → isOut (coordOf points v k) ≡ false
-          pick x y z zero l = x
-          pick x y z (suc zero) l = y
-          pick x y z (suc (suc zero)) l = z
-          pick x y z (suc (suc (suc k))) l = absurd (omega arith)
-
-      coord : (v k : ℕ) → v < vertices points → k < 3 → isOut (coordOf points v k) ≡ false
-      coord v k l h = three v (lowest-none (vertices points) (outOfRange points) (o .ranges) v l) k h
 
   -- the sizes, for the arithmetic of the writer
   pub long : Long points corners begins

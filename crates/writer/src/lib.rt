@@ -48,7 +48,7 @@ fn put_facet(rest: &mut [u8], corners: &[u16])
 }
 
 // A record of two counts.
-pub fn put_counts(rest: &mut [u8], kind: u8, v: u16, f: u16)
+fn put_counts(rest: &mut [u8], kind: u8, v: u16, f: u16)
     requires { ⌜ 5 ≤ length (now rest) ⌝ }
     ensures { λ _. ⌜ now (rest .exit) ≡ over (framed kind (v ∷ f ∷ [])) (now (rest .entry)) ⌝ }
 {
@@ -58,7 +58,7 @@ pub fn put_counts(rest: &mut [u8], kind: u8, v: u16, f: u16)
 }
 
 // The records of all points, each at the beginning of the rest that the one before it left.
-pub fn put_points(buffer: &mut [u8], points: &[i32])
+fn put_points(buffer: &mut [u8], points: &[i32])
     requires { ⌜ Placed (now points) × (7 * vertices (now points) ≤ length (now buffer)) ⌝ }
     ensures { λ _. ⌜ now (buffer .exit) ≡ over (pointBytes (now (points .entry)) (vertices (now (points .entry)))) (now (buffer .entry)) ⌝ }
 {
@@ -74,7 +74,7 @@ pub fn put_points(buffer: &mut [u8], points: &[i32])
 }
 
 // The records of all facets, likewise.
-pub fn put_facets(buffer: &mut [u8], corners: &[u16], begins: &[u16])
+fn put_facets(buffer: &mut [u8], corners: &[u16], begins: &[u16])
     requires { ⌜ Laid (now corners) (now begins) × (facets (now begins) + 2 * length (now corners) ≤ length (now buffer)) ⌝ }
     ensures { λ _. ⌜ now (buffer .exit) ≡ over (facetBytes (now (corners .entry)) (now (begins .entry)) (facets (now (begins .entry)))) (now (buffer .entry)) ⌝ }
 {
@@ -90,7 +90,7 @@ pub fn put_facets(buffer: &mut [u8], corners: &[u16], begins: &[u16])
 }
 
 // Numbers 1 to 3 as the judge gives them, or 0.
-pub fn check(points: &[i32], corners: &[u16], begins: &[u16]) -> tables::Answer
+fn check(points: &[i32], corners: &[u16], begins: &[u16]) -> tables::Answer
     ensures { λ r. ⌜ r ≡ checked (now (points .entry)) (now (corners .entry)) (now (begins .entry)) (accepted 0 0 0) ⌝ }
 {
     if tables::size(points, corners, begins) {

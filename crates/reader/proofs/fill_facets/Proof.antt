@@ -2,10 +2,9 @@
 use borrow.Author.Needs.{needs}
 use mathlib.Core.Path.{_≡_, refl, sym, _∙_}
 use mathlib.Core.List.{List}
-use Prim.Native.Nat.{ℕ, _+_, _-_, _≤_}
+use Prim.Native.Nat.{ℕ, _+_, _-_}
 use native.Mathlib.Omega.{arith}
-use lib.ListN.{length, getD, length-set}
-use Rattle.tables.specs.Tables.{mostSides}
+use lib.ListN.{getD, length-set}
 use Rattle.tape.specs.Joined.{length-listed}
 use Rattle.tape.specs.Over.{Wrote, wrote}
 use Rattle.tape.specs.Reading.{numbersAt}

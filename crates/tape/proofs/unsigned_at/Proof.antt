@@ -7,18 +7,16 @@ use Rattle.tape.proofs.unsigned_at.Statement.{statement}
 use Rattle.tape.proofs.unsigned_at.Tie as tie
 
 low : tie.Need-cast-result
-low c = omega (arith, c .shared-slice-known .given (c .before .args .i))
+low c = let i = c .before .args .i in omega (arith, c .shared-slice-known .given i, c .shared-slice-known .given (i + 1))
 
 high : tie.Need-cast-result-2
-high c = omega (arith, c .shared-slice-known2 .given (c .before .before .args .i + 1))
+high c = let i = c .before .before .args .i in omega (arith, c .shared-slice-known2 .given i, c .shared-slice-known2 .given (i + 1))
 
 product : tie.Need-mul-result
-product c = omega (arith, c .shared-slice-known2 .given (c .before .before .args .i + 1))
+product c = let i = c .before .before .args .i in omega (arith, c .shared-slice-known2 .given i, c .shared-slice-known2 .given (i + 1))
 
 sum : tie.Need-add-result-2
-sum c =
-    let i = c .before .before .args .i in
-    omega (arith, c .shared-slice-known2 .given i, c .shared-slice-known2 .given (i + 1))
+sum c = let i = c .before .before .args .i in omega (arith, c .shared-slice-known2 .given i, c .shared-slice-known2 .given (i + 1))
 
 returns : tie.Need-returns
 unfolding numberAt

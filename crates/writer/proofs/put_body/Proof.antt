@@ -1,9 +1,7 @@
 -- `writer::put_body` meets its contract. Assumes nothing.
 use borrow.Author.Needs.{needs}
 use mathlib.Core.Path.{_≡_, refl, ap, _∙_}
-use mathlib.Core.List.{List}
-use Prim.Native.Nat.{ℕ, _+_, _-_, _*_, _≤_, _<_}
-use native.Mathlib.Omega.{arith}
+use Prim.Native.Nat.{ℕ, _-_, _*_, _≤_, _<_}
 use lib.ListN.{length, take, getD}
 use lib.Seq.{sets, length-sets, take-length, length-take-le}
 use Rattle.tape.specs.Little.{bytesOf}

@@ -1,11 +1,9 @@
 -- `writer::put_points` meets its contract. Assumes nothing.
 use borrow.Author.Needs.{needs}
-use mathlib.Core.Path.{_≡_, refl, sym, _∙_}
-use Prim.Native.Nat.{ℕ, _+_, _-_, _*_, _≤_, _<_}
-use native.Mathlib.Omega.{arith}
+use mathlib.Core.Path.{_≡_}
+use Prim.Native.Nat.{ℕ, _-_, _*_, _≤_, _<_}
 use lib.Dec.{lit<}
 use lib.IntN.{ℤ}
-use lib.ListN.{length}
 use mir.Syntax.{w16, w32}
 use mir.Val.{SFits, toZ, ofZ}
 use Rattle.space.specs.Points.{vertices, coordOf}
@@ -15,8 +13,6 @@ use Rattle.tape.specs.Over.{Wrote, wrote-none, handed, length-part}
 use Rattle.tape.specs.Records.{bytes, pointOf, pointBytes, length-packed, length-points}
 use Rattle.writer.proofs.put_points.Statement.{statement}
 use Rattle.writer.proofs.put_points.Tie as tie
-use Rattle.writer.proofs.put_points.Reads as reads
-use Rattle.writer.proofs.put_points.Lts as lts
 
 abbrev Inv-loop : tie.InvT-loop
 Inv-loop buffer₀ points n v₀ buffer v = (v ≤ n) × Wrote (pointBytes points v) buffer₀ buffer
