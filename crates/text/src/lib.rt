@@ -276,7 +276,7 @@ pub struct Line {
 // A line of numbers that has room.
 pub fn line_of(numbers: &[i64]) -> Line
     requires { ⌜ length (lineOf (now numbers)) ≤ room ⌝ }
-    ensures { λ r. ⌜ (r ≡ lineIn (now (numbers .entry))) × (r .len ≤ room) ⌝ }
+    ensures { λ r. ⌜ r ≡ lineIn (now (numbers .entry)) ⌝ }
 {
     let mut bytes = [0u8; ROOM];
     let len = put_line(&mut bytes, 0, numbers);
@@ -295,7 +295,7 @@ pub fn number_of(n: usize) -> i64
 
 // "number and three places, in decimal, single spaces, newline"
 pub fn line4(a: i64, b: i64, c: i64, d: i64) -> Line
-    ensures { λ r. ⌜ (r ≡ lineIn (a ∷ b ∷ c ∷ d ∷ [])) × (r .len ≤ room) ⌝ }
+    ensures { λ r. ⌜ (r ≡ lineIn (a ∷ b ∷ c ∷ d ∷ [])) × (length (lineOf (a ∷ b ∷ c ∷ d ∷ [])) ≤ room) ⌝ }
 {
     let numbers = [a, b, c, d];
     line_of(&numbers)
