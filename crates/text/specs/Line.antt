@@ -86,6 +86,9 @@ unfolding lineOf
 few-line [] h = omega arith
 few-line (z ∷ zs) h = simp length-append (omega (arith, few-bytes z (h .0), few-line zs (h .1)))
 
+pub line-long : (zs : List ℤ) → length (lineIn zs .bytes) ≡ room
+line-long zs = length-sets (replicate room 0) 0 (lineOf zs) ∙ length-replicate {A = ℕ} room 0
+
 -- the first `len` bytes are the line
 pub line-bytes : (zs : List ℤ) → length (lineOf zs) ≤ room → take (lineIn zs .len) (lineIn zs .bytes) ≡ lineOf zs
 line-bytes zs h =

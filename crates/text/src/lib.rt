@@ -194,13 +194,13 @@ pub fn number_at(text: &[u8], k: usize) -> Read
 }
 
 // A number without its sign: that of the least number fits too.
-fn magnitude(z: i64) -> u64
-    ensures { λ r. ⌜ r ≡ natAbs z ⌝ }
+fn magnitude(x: i64) -> u64
+    ensures { λ r. ⌜ r ≡ natAbs x ⌝ }
 {
-    if z < 0 {
-        return (-(z + 1)) as u64 + 1;
+    if x < 0 {
+        return (-(x + 1)) as u64 + 1;
     }
-    z as u64
+    x as u64
 }
 
 // The byte of a digit.
@@ -295,7 +295,7 @@ pub fn number_of(n: usize) -> i64
 
 // "number and three places, in decimal, single spaces, newline"
 pub fn line4(a: i64, b: i64, c: i64, d: i64) -> Line
-    ensures { λ r. ⌜ r ≡ lineIn (a ∷ b ∷ c ∷ d ∷ []) ⌝ }
+    ensures { λ r. ⌜ (r ≡ lineIn (a ∷ b ∷ c ∷ d ∷ [])) × (length (lineOf (a ∷ b ∷ c ∷ d ∷ [])) ≤ room) ⌝ }
 {
     let numbers = [a, b, c, d];
     line_of(&numbers)

@@ -65,10 +65,10 @@ pub magnitude-spec : {M : Type 1} → statement M
 magnitude-spec =
     tie.close
     (tie.spec
-    (λ c. once-fits (c .before .args .z) (c .before .fits .z) (c .if1 .taken))
-    (λ c. twice-fits (c .before .args .z) (c .before .fits .z) (c .if1 .taken))
-    (λ c. cast (c .before .args .z) (c .before .fits .z) (c .if1 .taken))
-    (λ c. sum-fits (c .before .args .z) (c .before .fits .z) (c .if1 .taken))
-    (λ c. sum (c .before .args .z) (c .before .fits .z) (c .if1 .taken))
-    (λ c. let e = toZ-ofZ (c .before .fits .z) in rw e (above (c .before .args .z) (c .before .fits .z) (rw e at (c .if1 .left))))
+    (λ c. once-fits (c .before .args .x) (c .before .fits .x) (c .if1 .taken))
+    (λ c. twice-fits (c .before .args .x) (c .before .fits .x) (c .if1 .taken))
+    (λ c. cast (c .before .args .x) (c .before .fits .x) (c .if1 .taken))
+    (λ c. sum-fits (c .before .args .x) (c .before .fits .x) (c .if1 .taken))
+    (λ c. sum (c .before .args .x) (c .before .fits .x) (c .if1 .taken))
+    (λ c. let e = toZ-ofZ (c .before .fits .x) in rw e (above (c .before .args .x) (c .before .fits .x) (rw e at (c .if1 .left))))
     (λ c. search needs))
