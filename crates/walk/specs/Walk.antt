@@ -1,5 +1,5 @@
 -- "The walk": its refusals, its answer, and what every entry of the trail then holds.
-use mathlib.Core.Path.{_≡_, refl}
+use mathlib.Core.Path.{_≡_}
 use mathlib.Core.Bool.{Bool, true, false, cond}
 use mathlib.Core.List.{List}
 use Prim.Native.Nat.{ℕ, suc, _≤_, _<_}
@@ -48,7 +48,7 @@ module _ (points : List ℤ) (corners begins : List ℕ) (d : Direction) (start 
 
   -- ---- the outcomes
 
-  abbrev Outcome : Walked → List ℕ → Type 0
+  abbrev pub Outcome : Walked → List ℕ → Type 0
   Outcome r after = (r ≡ walked) × (after ≡ trailAfter)
 
   pub by-judge : (judged points corners begins .number ≡ 0 → ⊥) → Outcome (halted (judged points corners begins)) trail
