@@ -18,26 +18,19 @@ use Rattle.solid.specs.Tables.{Edge}
 use Rattle.solid.specs.Places.{next-place}
 use Rattle.solid.specs.Theorems as Solid
 use Rattle.bridge.specs.Surface.{tablesOf, sized-tables}
-use Rattle.judge.specs.Judge.{judged}
 use Rattle.judge.specs.Meaning.{is-measured, is-convex}
-use Rattle.walk.specs.Direction.{Permitted, not-wrong, way, height}
+use Rattle.walk.specs.Direction.{way, height}
 use Rattle.walk.specs.Stepped.{Chosen}
 use Rattle.walk.specs.Neighbours.{neighbour-edge, edge-neighbour}
 use Rattle.walk.specs.Course.{after, finish, stood, trailed}
 use Rattle.walk.specs.Rise.{Ends, ends, stood-length, stood-at}
-use Rattle.walk.specs.Walk.{arrived, walked, trailAfter, arrives}
+use Rattle.walk.specs.Walk.{arrived, walked, trailAfter}
+use Rattle.walk.specs.Meaning.{Granted, ARRIVED, row-is}
 use Rattle.walk.specs.declared.Direction.{Direction}
 use Rattle.walk.specs.declared.Standing.{Standing}
 use Rattle.walk.specs.declared.Walked.{Walked}
 
 module _ (points : List ℤ) (corners begins : List ℕ) (d : Direction) (start : ℕ) (trail : List ℕ) where
-  -- "On an accepted solid, with a permitted direction, a start corner it has and room for the trail"
-  pub record Granted : Type 0 where
-    pub accepted : judged points corners begins .number ≡ 0
-    pub permitted : Permitted d
-    pub corner : start < vertices points
-    pub room : vertices points ≤ length trail
-
   -- r is the answer, and t what the trail then holds
   pub record Demand3 (r : Walked) (t : List ℕ) : Type 0 where
     pub answered : r .answer ≡ refused 0 0 0
@@ -100,7 +93,7 @@ module _ (points : List ℤ) (corners begins : List ℕ) (d : Direction) (start 
       | no z ↦ <-trans _ _ _ (higher i j (omega arith) (omega arith)) (E .moves j (omega arith) .up)
     ]
 
-    module _ (G : Granted) where
+    module _ (G : Granted points corners begins d start trail) where
       m : Measured points corners begins
       m = is-measured points corners begins (G .accepted)
 
@@ -138,9 +131,9 @@ module _ (points : List ℤ) (corners begins : List ℕ) (d : Direction) (start 
         same-room = rw (length-append, stood-length points corners begins d start (k + 1), length-drop) (omega (arith, E .going .left, G .room));
       }
 
-  pub demand-3 : Granted → Demand3 (walked points corners begins d start trail) (trailAfter points corners begins d start trail)
+  pub demand-3 : Granted points corners begins d start trail → Demand3 (walked points corners begins d start trail) (trailAfter points corners begins d start trail)
   demand-3 G =
       let (k, E) = ends points corners begins d start (G .corner) in
-      let (a, b) = arrives points corners begins d start trail (G .accepted) (G .corner) (not-wrong (G .permitted)) (G .room) in
+      let (a, b) = row-is points corners begins d start trail (ARRIVED G) in
       subst (λ x. Demand3 x (trailAfter points corners begins d start trail)) (sym (answer-is E G) ∙ a)
       (subst (λ x. Demand3 (r E) x) (sym (trail-is E G) ∙ b) (met E G))
