@@ -3,7 +3,7 @@ use mathlib.Core.Path.{_≡_, refl, sym, ap, _∙_}
 use mathlib.Core.Logic.{_⊎_, inl, inr}
 use mathlib.Core.Bool.{Bool, true, false, cond, true≢false}
 use mathlib.Core.List.{List}
-use Prim.Native.Nat.{ℕ, _+_, _-_, _≤_, _<_}
+use Prim.Native.Nat.{ℕ, _-_, _≤_, _<_}
 use native.Mathlib.Omega.{arith}
 use native.Mathlib.Decide.{ℕ-discrete, decLt}
 use lib.Dec.{ltb}
@@ -11,8 +11,8 @@ use lib.IntN.{ℤ}
 use lib.Signed.{ltZ, _≤ℤ_, _<ℤ_}
 use lib.ListN.{length, getD}
 use borrow.Author.Tests.{eq-eqb, ltb-true, ltb-false}
-use Rattle.whole.specs.Order.{lt→le, eq→le, ≤-antisym, <-trans, ltZ-true, ltZ-false}
-use Rattle.whole.specs.First.{anyBelow, any-is}
+use Rattle.whole.specs.Order.{≤-antisym, <-trans, ltZ-true, ltZ-false}
+use Rattle.whole.specs.First.{any-is}
 use Rattle.space.specs.Points.{Vertex}
 use Rattle.tables.specs.Tables.{from, to}
 use Rattle.edges.specs.Chains.{Chains, On, on-0, on-more, gap-0, gap-more}

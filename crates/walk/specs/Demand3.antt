@@ -1,7 +1,6 @@
 -- Demand 3, of the walk's answer and of every entry of its trail. Assumes nothing.
 use mathlib.Core.Path.{_≡_, refl, sym, ap, _∙_, subst}
 use mathlib.Core.Logic.{_≢_}
-use mathlib.Core.Bool.{true}
 use mathlib.Core.List.{List, _++_}
 use Prim.Native.Nat.{ℕ, zero, suc, _+_, _-_, _≤_, _<_}
 use native.Mathlib.Numerals.{add-one}
@@ -13,34 +12,25 @@ use lib.ListN.{length, getD, drop, length-append, length-drop, List·getD-append
 use lib.Seq.{getD-append-add, getD-drop}
 use Rattle.whole.specs.Order.{eq→le, <-trans, clash}
 use Rattle.space.specs.Points.{vertices}
-use Rattle.tables.specs.Tables.{homeOf}
-use Rattle.tables.specs.Places.{next-below}
 use Rattle.tables.specs.Answer.{refused}
 use Rattle.flat.specs.Facet.{Measured}
-use Rattle.solid.specs.Tables.{Tables, Edge}
+use Rattle.solid.specs.Tables.{Edge}
+use Rattle.solid.specs.Places.{next-place}
 use Rattle.solid.specs.Theorems as Solid
-use Rattle.bridge.specs.Surface.{tablesOf, sized-tables, place-runs, runs-edge}
-use Rattle.judge.specs.Judge.{judged}
+use Rattle.bridge.specs.Surface.{tablesOf, sized-tables}
 use Rattle.judge.specs.Meaning.{is-measured, is-convex}
-use Rattle.walk.specs.Direction.{Permitted, not-wrong, way, height}
-use Rattle.walk.specs.Step.{isNeighbour}
-use Rattle.walk.specs.Best.{end-neighbour}
-use Rattle.walk.specs.Stepped.{joined, Chosen}
+use Rattle.walk.specs.Direction.{way, height}
+use Rattle.walk.specs.Stepped.{Chosen}
+use Rattle.walk.specs.Neighbours.{neighbour-edge, edge-neighbour}
 use Rattle.walk.specs.Course.{after, finish, stood, trailed}
 use Rattle.walk.specs.Rise.{Ends, ends, stood-length, stood-at}
-use Rattle.walk.specs.Walk.{arrived, walked, trailAfter, arrives}
+use Rattle.walk.specs.Walk.{arrived, walked, trailAfter}
+use Rattle.walk.specs.Meaning.{Granted, ARRIVED, row-is}
 use Rattle.walk.specs.declared.Direction.{Direction}
 use Rattle.walk.specs.declared.Standing.{Standing}
 use Rattle.walk.specs.declared.Walked.{Walked}
 
 module _ (points : List ℤ) (corners begins : List ℕ) (d : Direction) (start : ℕ) (trail : List ℕ) where
-  -- "On an accepted solid, with a permitted direction, a start corner it has and room for the trail"
-  pub record Granted : Type 0 where
-    pub accepted : judged points corners begins .number ≡ 0
-    pub permitted : Permitted d
-    pub corner : start < vertices points
-    pub room : vertices points ≤ length trail
-
   -- r is the answer, and t what the trail then holds
   pub record Demand3 (r : Walked) (t : List ℕ) : Type 0 where
     pub answered : r .answer ≡ refused 0 0 0
@@ -103,21 +93,14 @@ module _ (points : List ℤ) (corners begins : List ℕ) (d : Direction) (start 
       | no z ↦ <-trans _ _ _ (higher i j (omega arith) (omega arith)) (E .moves j (omega arith) .up)
     ]
 
-    module _ (G : Granted) where
+    module _ (G : Granted points corners begins d start trail) where
       m : Measured points corners begins
       m = is-measured points corners begins (G .accepted)
 
-      edge-of : {v u : ℕ} → isNeighbour corners begins v u ≡ true → (f : ℕ) × Edge (tablesOf points corners begins) f v u
-      edge-of {v} {u} e =
-          let j = joined corners begins v u e in
-          (homeOf begins (j .place), runs-edge points (m .sound .laid) (record { names = record { below = j .below; facet = refl; starts = j .leaves }; ends = j .ends }))
-
       top : (w : ℕ) → w < vertices points → height points d w ≤ℤ height points d (walk k .spot .vertex)
       top = Solid.highest (sized-tables points (m .sound)) (is-convex points corners begins (G .accepted)) (way d) (walk k .spot .vertex) (E .going .placed .vertex) (λ f i p e.
-          let R = place-runs points (m .sound .laid) p in
-          let b = R .names .below in
-          let near = rw (R .ends) at (end-neighbour corners begins b (R .names .starts ∙ e)) in
-          E .stuck _ (rw (R .ends) at (m .sound .named .index _ (next-below (m .sound .laid) b))) near)
+          E .stuck _ (sized-tables points (m .sound) .index (next-place (tablesOf points corners begins) p))
+          (edge-neighbour points (m .sound .laid) _ _ (record { i = i; place = p; from = e; to = refl })))
 
       -- the answer and the trail are these
       answer-is : arrived (finish points corners begins d start) ≡ r
@@ -132,7 +115,7 @@ module _ (points : List ℤ) (corners begins : List ℕ) (d : Direction) (start 
       met = record {
         answered = refl;
         from-start = entry 0 (omega arith);
-        along = λ i l. step-to (λ a b. (f : ℕ) × Edge (tablesOf points corners begins) f a b) i l (edge-of (E .moves i l .chosen .highest .neighbour));
+        along = λ i l. step-to (λ a b. (f : ℕ) × Edge (tablesOf points corners begins) f a b) i l (neighbour-edge points (m .sound .laid) _ _ (E .moves i l .chosen .highest .neighbour));
         chosen = λ i l. step-to (Chosen points corners begins d) i l (E .moves i l .chosen);
         rising = λ i l. step-to (λ a b. height points d a <ℤ height points d b) i l (E .moves i l .up);
         few = omega (arith, E .going .left);
@@ -148,9 +131,9 @@ module _ (points : List ℤ) (corners begins : List ℕ) (d : Direction) (start 
         same-room = rw (length-append, stood-length points corners begins d start (k + 1), length-drop) (omega (arith, E .going .left, G .room));
       }
 
-  pub demand-3 : Granted → Demand3 (walked points corners begins d start trail) (trailAfter points corners begins d start trail)
+  pub demand-3 : Granted points corners begins d start trail → Demand3 (walked points corners begins d start trail) (trailAfter points corners begins d start trail)
   demand-3 G =
       let (k, E) = ends points corners begins d start (G .corner) in
-      let (a, b) = arrives points corners begins d start trail (G .accepted) (G .corner) (not-wrong (G .permitted)) (G .room) in
+      let (a, b) = row-is points corners begins d start trail (ARRIVED G) in
       subst (λ x. Demand3 x (trailAfter points corners begins d start trail)) (sym (answer-is E G) ∙ a)
       (subst (λ x. Demand3 (r E) x) (sym (trail-is E G) ∙ b) (met E G))

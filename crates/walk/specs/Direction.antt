@@ -1,6 +1,7 @@
 -- "direction of three whole numbers": its named axes, the limits of its parts, and heights along it. Assumes nothing.
-use mathlib.Core.Path.{_≡_}
-use mathlib.Core.Bool.{Bool, false, _||_}
+use mathlib.Core.Path.{_≡_, refl, sym, _∙_}
+use mathlib.Core.Logic.{_↔_}
+use mathlib.Core.Bool.{Bool, true, false, _||_, true≢false}
 use mathlib.Core.List.{List, [], _∷_}
 use Prim.Native.Nat.{ℕ}
 use lib.IntN.{ℤ, pos, negsuc}
@@ -49,6 +50,13 @@ pub not-wrong : {d : Direction} → Permitted d → isWrong d ≡ false
 unfolding isSteep
 not-wrong p = rw (not-beyond (p .x), not-beyond (p .y), not-beyond (p .z))
 
+pub wrong-exactly : (d : Direction) → isWrong d ≡ true ↔ ¬ Permitted d
+wrong-exactly d = (λ e p. true≢false (sym e ∙ not-wrong p), λ n. go (isWrong d) (λ e. n (permitted d e)))
+  where
+    go : (t : Bool) → ¬ (t ≡ false) → t ≡ true
+    go true h = refl
+    go false h = absurd (h refl)
+
 -- ---- heights
 
 abbrev pub way : Direction → Vec ℤ
@@ -59,5 +67,5 @@ abbrev pub height : List ℤ → Direction → ℕ → ℤ
 height points d v = way d · point points v
 
 -- three products of a part, within 32,767, and a coordinate, within 8,191
-abbrev pub farthest : ℕ
-farthest = 805183491
+abbrev pub tallest : ℕ
+tallest = 805183491

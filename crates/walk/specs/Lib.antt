@@ -8,4 +8,7 @@ pub mod Course
 pub mod Rise
 pub mod Climb
 pub mod Walk
+pub mod Meaning
+pub mod Neighbours
 pub mod Demand3
+pub mod Cases

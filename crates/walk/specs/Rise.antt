@@ -1,25 +1,23 @@
 -- A walk rises at each move, so it moves fewer times than there are vertices, and stops. Assumes nothing.
 use mathlib.Core.Path.{_≡_, refl, sym, ap, _∙_}
-use mathlib.Core.Bool.{Bool, true, false}
-use mathlib.Core.List.{List, [], _∷_, _++_, append-assoc}
+use mathlib.Core.Bool.{true, false}
+use mathlib.Core.List.{List, [], _∷_, _++_}
 use Prim.Native.Nat.{ℕ, zero, suc, _+_, _-_, _≤_, _<_}
 use native.Mathlib.Nat.{add-zero, add-suc}
-use native.Mathlib.Numerals.{add-one}
 use native.Mathlib.Omega.{arith}
 use native.Mathlib.Decide.{ℕ-discrete}
 use lib.IntN.{ℤ}
-use lib.Signed.{ltZ, _≤ℤ_, _<ℤ_}
+use lib.Signed.{_≤ℤ_, _<ℤ_}
 use lib.ListN.{length, getD, set, drop, length-append, List·getD-append}
 use lib.Seq.{drop-cons, set-at, append-snoc, getD-at}
-use Rattle.whole.specs.Order.{eq→le, <-trans, clash, ltZ-true, true-ltZ, false-ltZ}
+use Rattle.whole.specs.Order.{eq→le, <-trans, ltZ-true, true-ltZ, false-ltZ}
 use Rattle.whole.specs.Count.{countBelow, count-le, count-less}
 use Rattle.space.specs.Points.{vertices, Vertex}
 use Rattle.walk.specs.Direction.{height}
 use Rattle.walk.specs.Step.{isNeighbour, isHigher, moveTo, step}
 use Rattle.walk.specs.Best.{Placed}
-use Rattle.walk.specs.Ready.{Stands}
-use Rattle.walk.specs.Stepped.{Chosen, Stepped, moved, stayed, stepped}
-use Rattle.walk.specs.Course.{after, finish, stood, trailed}
+use Rattle.walk.specs.Stepped.{Chosen, moved, stayed, stepped}
+use Rattle.walk.specs.Course.{after, finish, stood}
 use Rattle.walk.specs.declared.Direction.{Direction}
 use Rattle.walk.specs.declared.Standing.{Standing}
 

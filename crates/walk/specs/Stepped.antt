@@ -1,18 +1,18 @@
 -- What a step does: it moves to a higher neighbour, or no neighbour is higher. Assumes nothing.
 use mathlib.Core.Path.{_≡_, refl, sym, ap, _∙_}
-use mathlib.Core.Logic.{_⊎_, inl, inr}
+use mathlib.Core.Logic.{inl, inr}
 use mathlib.Core.Bool.{Bool, true, false, cond, not, _&&_, true≢false}
 use mathlib.Core.List.{List}
 use Prim.Native.Nat.{ℕ, zero, suc, _+_, _≤_, _<_}
 use native.Mathlib.Omega.{arith}
-use native.Mathlib.Decide.{ℕ-discrete, decLt}
+use native.Mathlib.Decide.{ℕ-discrete}
 use lib.Dec.{eqb}
 use lib.IntN.{ℤ}
-use lib.Signed.{ltZ, _≤ℤ_, _<ℤ_, ≤ℤ-refl}
+use lib.Signed.{ltZ, _≤ℤ_, _<ℤ_}
 use lib.ListN.{length}
-use borrow.Author.Tests.{ltb-true, ltb-false, eqb-true, not-true, not-false}
+use borrow.Author.Tests.{ltb-true, eqb-true, not-true}
 use Rattle.whole.specs.Order.{lt→le, eq→le, ≤-trans, clash, le-or-lt, ltZ-true, true-ltZ, ltZ-false, false-ltZ}
-use Rattle.whole.specs.First.{firstBelow, anyBelow, never, first-holds, before-first, none-all, hit, any-is, any-none, any-false}
+use Rattle.whole.specs.First.{firstBelow, anyBelow, first-holds, before-first, none-all, hit, any-none, any-false}
 use Rattle.whole.specs.Count.{both, is-false}
 use Rattle.space.specs.Points.{vertices, Vertex}
 use Rattle.tables.specs.Tables.{from, to}

@@ -1,13 +1,10 @@
 -- "The walk": its refusals, its answer, and what every entry of the trail then holds.
-use mathlib.Core.Path.{_≡_, refl}
-use mathlib.Core.Bool.{Bool, true, false, cond}
+use mathlib.Core.Bool.{Bool, cond}
 use mathlib.Core.List.{List}
-use Prim.Native.Nat.{ℕ, suc, _≤_, _<_}
-use native.Mathlib.Omega.{arith}
+use Prim.Native.Nat.{ℕ}
 use lib.Dec.{eqb, ltb, leb}
 use lib.IntN.{ℤ, pos}
 use lib.ListN.{length}
-use borrow.Author.Tests.{ne-eqb, le-leb, lt-leb, lt-ltb, le-ltb}
 use Rattle.space.specs.Points.{vertices}
 use Rattle.tables.specs.Answer.{refused}
 use Rattle.tables.specs.declared.Answer.{Answer}
@@ -35,41 +32,14 @@ module _ (points : List ℤ) (corners begins : List ℕ) (d : Direction) (start 
   abbrev pub refusal : Answer
   refusal = cond (eqb (judged points corners begins .number) 0) (refused fromStart 0 0) (judged points corners begins)
 
-  -- whether the walk is refused by none
+  -- whether none of them applies
   abbrev pub isOpen : Bool
   isOpen = eqb (refusal .number) 0
 
+  -- the walk's one answer
   unfoldable pub walked : Walked
   walked = cond isOpen (arrived (finish points corners begins d start)) (halted refusal)
 
-  -- "and leaves the trail untouched"
+  -- every entry of the trail after it: a refusal "leaves the trail untouched"
   unfoldable pub trailAfter : List ℕ
   trailAfter = cond isOpen (trailed points corners begins d start trail) trail
-
-  -- ---- the outcomes
-
-  abbrev Outcome : Walked → List ℕ → Type 0
-  Outcome r after = (r ≡ walked) × (after ≡ trailAfter)
-
-  pub by-judge : (judged points corners begins .number ≡ 0 → ⊥) → Outcome (halted (judged points corners begins)) trail
-  unfolding walked trailAfter
-  by-judge e = (rw (ne-eqb _ _ e, ne-eqb _ _ e), rw (ne-eqb _ _ e, ne-eqb _ _ e))
-
-  module _ (e : judged points corners begins .number ≡ 0) where
-    refused-by : {n : ℕ} → fromStart ≡ suc n → Outcome (halted (refused (suc n) 0 0)) trail
-    unfolding walked trailAfter
-    refused-by {n} f = let z = ne-eqb (suc n) 0 (λ q. omega arith) in (rw (e, f, z), rw (e, f, z))
-
-    pub by-start : vertices points ≤ start → Outcome (halted (refused 13 0 0)) trail
-    by-start l = refused-by (rw (le-leb _ _ l))
-
-    module _ (l : start < vertices points) where
-      pub by-direction : isWrong d ≡ true → Outcome (halted (refused 14 0 0)) trail
-      by-direction w = refused-by (rw (lt-leb _ _ l, w))
-
-      pub by-trail : isWrong d ≡ false → length trail < vertices points → Outcome (halted (refused 15 0 0)) trail
-      by-trail w m = refused-by (rw (lt-leb _ _ l, w, lt-ltb _ _ m))
-
-      pub arrives : isWrong d ≡ false → vertices points ≤ length trail → Outcome (arrived (finish points corners begins d start)) (trailed points corners begins d start trail)
-      unfolding walked trailAfter
-      arrives w m = (rw (e, lt-leb _ _ l, w, le-ltb _ _ m), rw (e, lt-leb _ _ l, w, le-ltb _ _ m))

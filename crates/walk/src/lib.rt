@@ -7,7 +7,7 @@ ghost use Rattle.space.specs.Range.{limit};
 ghost use Rattle.space.specs.Points.{Vertex, Ranged};
 ghost use Rattle.tables.specs.Answer.{refused};
 ghost use Rattle.edges.specs.Index.{Leaving};
-ghost use Rattle.walk.specs.Direction.{direction, axes, steepest, isSteep, isWrong, Permitted, height, farthest};
+ghost use Rattle.walk.specs.Direction.{direction, axes, steepest, isSteep, isWrong, Permitted, height, tallest};
 ghost use Rattle.walk.specs.Step.{spot, begin, step};
 ghost use Rattle.walk.specs.Best.{better, Placed, Best};
 ghost use Rattle.walk.specs.Ready.{Ready, Stands};
@@ -56,7 +56,7 @@ impl Direction {
     }
 
     // Number 14, DIRECTION: whether a part is outside its limits.
-    pub fn is_wrong(self) -> bool
+    fn is_wrong(self) -> bool
         ensures { λ r. ⌜ r ≡ isWrong self ⌝ }
     {
         if is_steep(self.x) {
@@ -88,7 +88,7 @@ fn part(x: i32) -> i64
 fn sum(a: i64, b: i64, c: i64, x: i64, y: i64, z: i64) -> i64
     requires { ⌜ a within steepest × b within steepest × c within steepest ⌝ }
     requires { ⌜ x within limit × y within limit × z within limit ⌝ }
-    ensures { λ r. ⌜ (r ≡ vec a b c · vec x y z) × r within farthest ⌝ }
+    ensures { λ r. ⌜ (r ≡ vec a b c · vec x y z) × r within tallest ⌝ }
 {
     a * x + b * y + c * z
 }
@@ -96,7 +96,7 @@ fn sum(a: i64, b: i64, c: i64, x: i64, y: i64, z: i64) -> i64
 // The height of vertex v.
 fn height(points: &[i32], direction: Direction, v: usize) -> i64
     requires { ⌜ Ranged (now points) × Vertex (now points) v × Permitted direction ⌝ }
-    ensures { λ r. ⌜ (r ≡ height (now (points .entry)) direction v) × r within farthest ⌝ }
+    ensures { λ r. ⌜ (r ≡ height (now (points .entry)) direction v) × r within tallest ⌝ }
 {
     sum(
         part(direction.x),

@@ -1,5 +1,4 @@
 -- `walk::climb` meets its contract. The loop's invariant is `Climbing`; the measure: the moves that are left to make. Assumes nothing.
-use borrow.Author.Needs.{needs}
 use mathlib.Core.Path.{_∙_}
 use Prim.Native.Nat.{_-_}
 use native.Mathlib.Omega.{arith}
