@@ -1,0 +1,12 @@
+-- `exports::solid_write_tape` meets its contract. Assumes nothing.
+use borrow.Author.Needs.{needs}
+use mathlib.Core.Path.{ap}
+use Rattle.exports.proofs.solid_write_tape.Statement.{statement}
+use Rattle.exports.proofs.solid_write_tape.Tie as tie
+
+returns : tie.Need-returns
+returns c = ?
+
+pub solid-write-tape-spec : {M : Type 1} → statement M
+solid-write-tape-spec =
+    tie.close (tie.spec (λ c κs. search needs) (λ c κs. search needs) (λ c. search needs) (λ c. search needs) returns)
