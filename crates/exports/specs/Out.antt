@@ -9,6 +9,7 @@ use lib.ListN.{length}
 use Rattle.tables.specs.declared.Answer.{Answer}
 use Rattle.reader.specs.declared.Reading.{Reading}
 use Rattle.outline.specs.declared.Verdict.{Verdict}
+use Rattle.walk.specs.declared.Walked.{Walked}
 use Rattle.tape.specs.Over.{over}
 use Rattle.text.specs.Line.{numberOf}
 
@@ -21,6 +22,10 @@ three first second third = numberOf first ∷ numberOf second ∷ numberOf third
 
 abbrev pub places : Answer → List ℤ
 places a = three (a .first) (a .second) (a .third)
+
+-- "the record's places, then vertex, height, moves"
+abbrev pub course : Walked → List ℤ
+course w = numberOf (w .answer .first) ∷ numberOf (w .answer .second) ∷ numberOf (w .answer .third) ∷ pos (w .vertex) ∷ w .height ∷ numberOf (w .moves) ∷ []
 
 abbrev pub counts : Reading → List ℤ
 counts r = three (r .first) (r .second) (r .third)

@@ -3,7 +3,9 @@ ghost use Rattle.judge.specs.Judge.{judged};
 ghost use Rattle.outline.specs.Outline.{judgedOutline};
 ghost use Rattle.reader.specs.Answer.{reading, pointsAfter, cornersAfter, beginsAfter};
 ghost use Rattle.writer.specs.Answer.{written, bufferAfter};
-ghost use Rattle.exports.specs.Out.{noted, three, places, counts, place};
+ghost use Rattle.walk.specs.Direction.{direction};
+ghost use Rattle.walk.specs.Walk.{walked, trailAfter};
+ghost use Rattle.exports.specs.Out.{noted, three, places, course, counts, place};
 
 // Puts numbers at the beginning of `out` where it is long enough, else leaves it.
 fn note(out: &mut [i64], numbers: &[i64])
@@ -44,6 +46,38 @@ pub extern "C" fn solid_judge(
 {
     let answer = judge::judge(points, corners, begins);
     note_places(out, answer.first, answer.second, answer.third);
+    answer.number
+}
+
+// The walk. `out` gets the judge's three places, then vertex, height and moves, and the number is returned.
+#[no_mangle]
+pub extern "C" fn solid_walk(
+    points: &[i32],
+    corners: &[u16],
+    begins: &[u16],
+    start: u32,
+    dx: i32,
+    dy: i32,
+    dz: i32,
+    trail: &mut [u16],
+    out: &mut [i64],
+) -> u16
+    ensures { λ r. ⌜ r ≡ walked (now (points .entry)) (now (corners .entry)) (now (begins .entry)) (direction dx dy dz) start (now (trail .entry)) .answer .number ⌝ }
+    ensures { λ _. ⌜ now (trail .exit) ≡ trailAfter (now (points .entry)) (now (corners .entry)) (now (begins .entry)) (direction dx dy dz) start (now (trail .entry)) ⌝ }
+    ensures { λ _. ⌜ now (out .exit) ≡ noted (course (walked (now (points .entry)) (now (corners .entry)) (now (begins .entry)) (direction dx dy dz) start (now (trail .entry)))) (now (out .entry)) ⌝ }
+{
+    let direction = walk::Direction::new(dx, dy, dz);
+    let walked = walk::walk(points, corners, begins, direction, start as usize, trail);
+    let answer = walked.answer;
+    let numbers = [
+        text::number_of(answer.first),
+        text::number_of(answer.second),
+        text::number_of(answer.third),
+        walked.vertex as i64,
+        walked.height,
+        text::number_of(walked.moves),
+    ];
+    note(out, &numbers);
     answer.number
 }
 

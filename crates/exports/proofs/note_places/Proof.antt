@@ -9,8 +9,15 @@ returns c =
     let z = c .before .before .before .before in
     let y = z .before in
     let x = y .before in
-    rw (c .before .note .ensures, toZ-ofZ (sfits-of (x .number-of .ok)), toZ-ofZ (sfits-of (y .number-of2 .ok)), toZ-ofZ (sfits-of (z .number-of3 .ok))
-    , x .number-of .ensures, y .number-of2 .ensures, z .number-of3 .ensures)
+    rw (
+      c .before .note .ensures,
+      toZ-ofZ (sfits-of (x .number-of .ok)),
+      toZ-ofZ (sfits-of (y .number-of2 .ok)),
+      toZ-ofZ (sfits-of (z .number-of3 .ok)),
+      x .number-of .ensures,
+      y .number-of2 .ensures,
+      z .number-of3 .ensures,
+    )
 
 pub note-places-spec : {M : Type 1} → statement M
 note-places-spec =
