@@ -9,7 +9,7 @@ use lib.ListN.{length}
 use Rattle.whole.specs.Orbit.{iterate}
 use Rattle.whole.specs.Rounds.{first, arc}
 use Rattle.space.specs.Points.{vertices}
-use Rattle.tables.specs.Tables.{facets, begin, homeOf, nextOf, from, to}
+use Rattle.tables.specs.Tables.{begin, homeOf, nextOf, from, to}
 use Rattle.tables.specs.Places.{Sound, Single, next-below, next-home}
 use Rattle.tables.specs.Rules.{repeat, unused}
 use Rattle.tables.specs.Found.{nowhere-is}

@@ -1,16 +1,16 @@
 -- The lent tables as `solid` has them: by facets and positions, and by places of the run. Assumes nothing.
-use mathlib.Core.Path.{_≡_, refl, sym, ap, _∙_}
+use mathlib.Core.Path.{_≡_, sym, ap, _∙_}
 use mathlib.Core.Logic.{inl, inr}
 use mathlib.Core.List.{List}
-use Prim.Native.Nat.{ℕ, suc, _+_, _-_, _≤_, _<_}
+use Prim.Native.Nat.{ℕ, _+_, _-_, _<_}
 use native.Mathlib.Omega.{arith}
 use lib.IntN.{ℤ}
 use lib.ListN.{length}
 use Rattle.space.specs.Points.{vertices, point}
-use Rattle.tables.specs.Tables.{facets, begin, end, sides, cornerOf, homeOf, nextOf, from, to}
+use Rattle.tables.specs.Tables.{facets, begin, sides, cornerOf, homeOf, nextOf, from, to}
 use Rattle.tables.specs.Size.{Laid}
-use Rattle.tables.specs.Places.{In, Sound, home-is, next-up, next-wrap, sides-some, corner-at, place-in, place-below}
-use Rattle.closed.specs.Lower.{Position, position}
+use Rattle.tables.specs.Places.{Sound, home-is, next-up, next-wrap, sides-some, corner-at, place-in, place-below}
+use Rattle.edges.specs.Flat.{position}
 use Rattle.solid.specs.Tables.{Tables, Place, Corner, Edge, Sized, after, next}
 use Rattle.solid.specs.Circuit.{after-cases, after-lt}
 

@@ -1,41 +1,24 @@
 -- What the numbers below leave, and the other way round: SIZE and INDEX, REPEAT, UNUSED. Assumes nothing.
-use mathlib.Core.Path.{_≡_, refl, sym, ap, _∙_}
-use mathlib.Core.Bool.{Bool, true, false, not}
+use mathlib.Core.Path.{_≡_, sym, ap, _∙_}
+use mathlib.Core.Bool.{false, not}
 use mathlib.Core.List.{List}
-use Prim.Native.Nat.{ℕ, _+_, _-_, _≤_, _<_}
+use Prim.Native.Nat.{ℕ, _+_, _-_, _<_}
 use native.Mathlib.Omega.{arith}
 use native.Mathlib.Decide.{decLt}
-use lib.Dec.{leb}
 use lib.IntN.{ℤ}
 use lib.ListN.{length, getD}
 use borrow.Author.Tests.{eqb-true, eqb-false, eq-eqb, ltb-true, leb-false, lt-leb, not-false}
-use Rattle.whole.specs.First.{anyBelow, any-is, any-none, any-false, firstBelow, first-holds}
+use Rattle.whole.specs.First.{any-is, any-none, any-false, firstBelow, first-holds}
 use Rattle.whole.specs.Count.{is-false}
 use Rattle.space.specs.Points.{vertices}
 use Rattle.tables.specs.Tables.{facets, begin, sides, facetOf, cornerOf, homeOf, from, isAt, again}
 use Rattle.tables.specs.Size.{Laid, Sized, isSize, sized}
-use Rattle.tables.specs.Places.{Named, Sound, Single, home, home-is, corner-at, place-in, place-below}
+use Rattle.tables.specs.Places.{Sound, Single, home-is, corner-at, place-in, place-below}
 use Rattle.tables.specs.Rules.{wild, index, repeat, unnamed, unused}
 use Rattle.tables.specs.Facets.{onFacets}
 use Rattle.tables.specs.Found.{nowhere-is, lowest-none, no-place-is, first-none}
 use Rattle.tables.specs.declared.Found.the-variants.{Nothing}
-
--- place p is position `at` of its facet
-pub record Position (corners begins : List ℕ) (p : ℕ) : Type 0 where
-  pub at : ℕ
-  pub facet : homeOf begins p < facets begins
-  pub side : at < sides begins (homeOf begins p)
-  pub is : begin begins (homeOf begins p) + at ≡ p
-  pub corner : cornerOf corners begins (homeOf begins p) at ≡ from corners p
-
-pub position : {corners begins : List ℕ} → Laid corners begins → {p : ℕ} → p < length corners → Position corners begins p
-position {corners} {begins} L {p} l =
-    let i = home L l in
-    let f = homeOf begins p in
-    let m : f < facets begins = omega (arith, i .facet) in
-    let h : p - begin begins f < sides begins f = omega (arith, i .low, i .high) in
-    let e : begin begins f + (p - begin begins f) ≡ p = omega (arith, i .low) in
-    record { at = p - begin begins f; facet = m; side = h; is = e; corner = corner-at L m h ∙ ap (from corners) e }
+use Rattle.edges.specs.Flat.{Position, position}
 
 -- ---- INDEX: "a corner number is V or more"
 

@@ -1,15 +1,15 @@
 -- Number 7, RING: "the facets at a vertex, stepped across edges at that vertex, make more than one ring". Assumes nothing.
-use mathlib.Core.Path.{_≡_, refl, sym, ap, _∙_}
+use mathlib.Core.Path.{_≡_, ap, _∙_}
 use mathlib.Core.Bool.{Bool, true, false}
 use mathlib.Core.List.{List}
-use Prim.Native.Nat.{ℕ, zero, suc, _+_, _-_, _≤_, _<_}
+use Prim.Native.Nat.{ℕ, _+_, _-_, _<_}
 use native.Mathlib.Nat.{le-refl}
 use native.Mathlib.Omega.{arith}
 use native.Mathlib.Decide.{decLt}
 use lib.Dec.{eqb}
 use lib.ListN.{length}
-use borrow.Author.Tests.{eqb-true, eqb-false, eq-eqb, ltb-true, ltb-false}
-use Rattle.whole.specs.First.{firstBelow, anyBelow, first-holds, any-false, any-none}
+use borrow.Author.Tests.{eqb-true, eqb-false, eq-eqb}
+use Rattle.whole.specs.First.{anyBelow, any-false, any-none}
 use Rattle.whole.specs.Count.{is-false, countBelow, count-but, last, some-last}
 use Rattle.whole.specs.Orbit.{iterate, Steps, NoReturn, reached, missed, return-first}
 use Rattle.tables.specs.Tables.{from}

@@ -1,19 +1,19 @@
 -- The code's loop round a vertex: a step for each further link of its chain. Assumes nothing.
 use mathlib.Core.Path.{_≡_, refl, sym, ap, _∙_}
-use mathlib.Core.Bool.{Bool, true, false}
+use mathlib.Core.Bool.{true, false}
 use mathlib.Core.List.{List}
 use Prim.Native.Nat.{ℕ, _+_, _-_, _≤_, _<_}
 use native.Mathlib.Omega.{arith}
 use lib.ListN.{length, getD}
 use borrow.Author.Tests.{eq-eqb, ne-eqb}
 use Rattle.whole.specs.First.{None, none-0, none-more, any-hit, any-miss}
-use Rattle.whole.specs.Count.{bit, countBelow, count-but}
+use Rattle.whole.specs.Count.{bit, count-but}
 use Rattle.whole.specs.Orbit.{iterate, iterate-more}
 use Rattle.tables.specs.Size.{Laid}
 use Rattle.edges.specs.Chains.{leaves, Chains, Met, met-0, met-more, met-all}
 use Rattle.edges.specs.Pair.{Paired}
 use Rattle.closed.specs.Step.{stepOf, step-below}
-use Rattle.closed.specs.Ring.{start, degree, backAt, broken}
+use Rattle.closed.specs.Ring.{start, backAt, broken}
 
 -- after i steps from p, none of which led back, it stands at q; the chain has i + 1 places before link k
 pub record Turning (corners begins : List ℕ) (v p q k : ℕ) : Type 0 where

@@ -1,14 +1,13 @@
 -- The other side of an edge, where PAIR applies nowhere: the place of its reverse. Assumes nothing.
 use mathlib.Core.Path.{_≡_, refl, sym, ap, _∙_}
-use mathlib.Core.Bool.{Bool, true, false, not, _&&_, _||_}
+use mathlib.Core.Bool.{Bool, true, false, not}
 use mathlib.Core.List.{List}
-use Prim.Native.Nat.{ℕ, suc, _+_, _-_, _≤_, _<_}
+use Prim.Native.Nat.{ℕ, _-_, _≤_, _<_}
 use native.Mathlib.Omega.{arith}
-use native.Mathlib.Decide.{decLt}
 use lib.Dec.{eqb, ltb}
 use lib.ListN.{length, getD}
 use borrow.Author.Tests.{eqb-true, eq-eqb, ltb-false, le-ltb, not-false}
-use Rattle.whole.specs.Count.{countBelow, lastBelow, count-but, last, once, some-last, both, neither}
+use Rattle.whole.specs.Count.{lastBelow, count-but, last, once, some-last, both, neither}
 use Rattle.whole.specs.Filled.{Filled, filled-one}
 use Rattle.whole.specs.Orbit.{cover}
 use Rattle.tables.specs.Tables.{homeOf, nextOf, from, to}

@@ -1,18 +1,35 @@
--- A search over the places of the run, in their order, finds the lowest facet and then the lowest position. Assumes nothing.
-use mathlib.Core.Path.{_≡_, refl, sym, ap, _∙_}
+-- Places as positions of facets: a search over the run finds the lowest facet and then the lowest position. Assumes nothing.
+use mathlib.Core.Path.{_≡_, sym, ap, _∙_}
 use mathlib.Core.Bool.{Bool, true, false}
 use mathlib.Core.List.{List}
-use Prim.Native.Nat.{ℕ, _+_, _-_, _≤_, _<_}
+use Prim.Native.Nat.{ℕ, _+_, _-_, _<_}
 use native.Mathlib.Omega.{arith}
 use native.Mathlib.Decide.{decLt}
 use lib.ListN.{length}
-use Rattle.whole.specs.First.{None, never, none-all}
-use Rattle.tables.specs.Tables.{facets, begin, sides, homeOf}
+use Rattle.whole.specs.First.{None, never}
+use Rattle.tables.specs.Tables.{facets, begin, sides, cornerOf, homeOf, from}
 use Rattle.tables.specs.Size.{Laid}
-use Rattle.tables.specs.Places.{home, home-is, home-rise, place-in, place-below}
+use Rattle.tables.specs.Places.{home, home-is, home-rise, corner-at, place-in, place-below}
 use Rattle.tables.specs.Found.{firstPlace, Nowhere, first-is, no-place-is, first-none}
 use Rattle.tables.specs.declared.Found.{Found}
 use Rattle.tables.specs.declared.Found.the-variants.{At, Nothing}
+
+-- place p is position `at` of its facet
+pub record Position (corners begins : List ℕ) (p : ℕ) : Type 0 where
+  pub at : ℕ
+  pub facet : homeOf begins p < facets begins
+  pub side : at < sides begins (homeOf begins p)
+  pub is : begin begins (homeOf begins p) + at ≡ p
+  pub corner : cornerOf corners begins (homeOf begins p) at ≡ from corners p
+
+pub position : {corners begins : List ℕ} → Laid corners begins → {p : ℕ} → p < length corners → Position corners begins p
+position {corners} {begins} L {p} l =
+    let i = home L l in
+    let f = homeOf begins p in
+    let m : f < facets begins = omega (arith, i .facet) in
+    let h : p - begin begins f < sides begins f = omega (arith, i .low, i .high) in
+    let e : begin begins f + (p - begin begins f) ≡ p = omega (arith, i .low) in
+    record { at = p - begin begins f; facet = m; side = h; is = e; corner = corner-at L m h ∙ ap (from corners) e }
 
 -- the first position, facet by facet, at whose place the test holds
 abbrev pub byFacets : List ℕ → (ℕ → Bool) → Found
@@ -30,13 +47,13 @@ early {begins = begins} {p = p} L g q l k h =
 module _ {corners begins : List ℕ} (L : Laid corners begins) (test : ℕ → Bool) where
   pub flat-hit : {p : ℕ} → None test p → test p ≡ true → p < length corners → At (homeOf begins p) (p - begin begins (homeOf begins p)) ≡ byFacets begins test
   flat-hit {p} n e l =
-      let i = home L l in
-      let again : begin begins (homeOf begins p) + (p - begin begins (homeOf begins p)) ≡ p = omega (arith, i .low) in
-      sym (first-is (record {
-        facet = omega (arith, i .facet);
-        place = omega (arith, i .low, i .high);
-        applies = rw again e;
-        before = λ q k. unmet _ (omega (arith, i .low));
+      let o = position L l in
+      let z : p - begin begins (homeOf begins p) ≡ o .at = omega (arith, o .is) in
+      ap (At (homeOf begins p)) z ∙ sym (first-is (record {
+        facet = o .facet;
+        place = o .side;
+        applies = rw (o .is) e;
+        before = λ q k. unmet _ (omega (arith, o .is));
         earlier = λ g q k h. unmet _ (early L g q l k h);
       }))
     where
@@ -48,6 +65,5 @@ module _ {corners begins : List ℕ} (L : Laid corners begins) (test : ℕ → B
 
   pub none-flat : byFacets begins test ≡ Nothing → Nowhere (length corners) test
   none-flat e p l =
-      let i = home L l in
-      let again : begin begins (homeOf begins p) + (p - begin begins (homeOf begins p)) ≡ p = omega (arith, i .low) in
-      rw again at (first-none (facets begins) (sides begins) (λ f p. test (begin begins f + p)) e (homeOf begins p) (p - begin begins (homeOf begins p)) (omega (arith, i .facet)) (omega (arith, i .low, i .high)))
+      let o = position L l in
+      rw (o .is) at (first-none (facets begins) (sides begins) (λ f p. test (begin begins f + p)) e (homeOf begins p) (o .at) (o .facet) (o .side))

@@ -3,7 +3,7 @@ use mathlib.Core.Path.{_≡_}
 use mathlib.Core.List.{List}
 use Prim.Native.Nat.{ℕ, _<_}
 use native.Mathlib.Omega.{arith}
-use lib.ListN.{length, getD}
+use lib.ListN.{length}
 use Rattle.whole.specs.Filled.{Filled, filled-one}
 use Rattle.tables.specs.Tables.{mostVertices, to}
 use Rattle.tables.specs.Size.{Laid}

@@ -1,7 +1,9 @@
 ghost use mathlib.Core.Path.{_≡_};
+ghost use mathlib.Core.Bool.{_||_};
 ghost use mathlib.Core.List.{[], _∷_};
 ghost use Prim.Native.Nat.{_<_};
 ghost use lib.IntN.{pos};
+ghost use lib.Signed.{ltZ};
 ghost use lib.ListN.{length, getD};
 ghost use Rattle.whole.specs.Bounds.{_within_};
 ghost use Rattle.space.specs.Vec.{vec};
@@ -12,14 +14,28 @@ ghost use Rattle.space.specs.Rows.{Step, Minor, Row, Rows, longest, wide
 ghost use Rattle.space.specs.Points.{Vertex, Ranged, coordOf, stepOf, rowOf, normalOf, isBelow, isAbove, isZero, isNought, sign, sideOf, inLine, isLeft};
 ghost use Rattle.space.specs.Sides.{isInside, isOn};
 
+// Whether a number is outside least to most.
+pub fn is_beyond(x: i32, least: i32, most: i32) -> bool
+    ensures { λ r. ⌜ r ≡ (ltZ x least || ltZ most x) ⌝ }
+{
+    if x < least {
+        return true;
+    }
+    most < x
+}
+
 // Whether a coordinate is outside its limits.
 pub fn is_out(x: i32) -> bool
     ensures { λ r. ⌜ r ≡ isOut x ⌝ }
 {
-    if x < -8191 {
-        return true;
-    }
-    8191 < x
+    is_beyond(x, -8191, 8191)
+}
+
+// A number in 64 bits.
+pub fn widen(x: i32) -> i64
+    ensures { λ r. ⌜ r ≡ x ⌝ }
+{
+    x as i64
 }
 
 // Entry k of a run of coordinates.
@@ -27,7 +43,7 @@ pub fn entry(run: &[i32], k: usize) -> i64
     requires { ⌜ InRange (now run) × (k < length (now run)) ⌝ }
     ensures { λ r. ⌜ (r ≡ getD (now (run .entry)) k (pos 0)) × r within limit ⌝ }
 {
-    run[k] as i64
+    widen(run[k])
 }
 
 // Coordinate k of vertex v: every reading of a point goes through here.
@@ -43,7 +59,7 @@ pub fn wide(points: &[i32], v: usize, k: usize) -> i64
     requires { ⌜ Ranged (now points) × Vertex (now points) v × (k < 3) ⌝ }
     ensures { λ r. ⌜ (r ≡ coordOf (now (points .entry)) v k) × r within limit ⌝ }
 {
-    coord(points, v, k) as i64
+    widen(coord(points, v, k))
 }
 
 // Coordinate k of the step from a to b.

@@ -1,15 +1,16 @@
 -- How large a sum, a difference and a product of whole numbers are. Assumes nothing.
 use mathlib.Core.Path.{_≡_, refl}
-use mathlib.Core.Bool.{cond}
+use mathlib.Core.Bool.{Bool, false, cond, _||_}
 use Prim.Native.Nat.{ℕ, zero, suc, _+_, _-_, _*_, _^_, _≤_}
 use native.Mathlib.Nat.{le-trans, le-of-eq, mul-le-mul}
 use native.Mathlib.Omega.{arith}
 use lib.Dec.{T, ltb, ltb→lt, leb→le, le→leb}
 use lib.IntN.{ℤ, pos, negsuc, negℤ, natAbs, _+ℤ_, _-ℤ_, _*ℤ_}
-use lib.Signed.{mag, _≤ℤ_, leZ-yes}
+use lib.Signed.{mag, ltZ, _≤ℤ_, leZ-yes}
 use mir.Syntax.{Width}
 use mir.Val.{SFits, hbits}
-use Rattle.whole.specs.Order.{cond-ind}
+use Rattle.whole.specs.Order.{cond-ind, ltZ-false, false-ltZ}
+use Rattle.whole.specs.Count.{neither}
 
 -- ---- the absolute value
 
@@ -71,6 +72,18 @@ within-low {z = pos n} {N = zero} h = leZ-yes (le→leb 0 n (omega arith))
 within-low {z = pos n} {N = suc N} h = leZ-yes tt
 within-low {z = negsuc n} {N = zero} h = absurd (omega (arith, h .abs))
 within-low {z = negsuc n} {N = suc N} h = leZ-yes (le→leb n N (omega (arith, h .abs)))
+
+-- a test of it: z is outside -N to N
+abbrev pub beyond : ℕ → ℤ → Bool
+beyond N z = ltZ z (negℤ (pos N)) || ltZ (pos N) z
+
+pub within-beyond : (N : ℕ) (z : ℤ) → beyond N z ≡ false → z within N
+within-beyond N z e =
+    let (low, high) = neither (ltZ z (negℤ (pos N))) (ltZ (pos N) z) e in
+    within-between z N (ltZ-false _ _ low) (ltZ-false _ _ high)
+
+pub not-beyond : {z : ℤ} {N : ℕ} → z within N → beyond N z ≡ false
+not-beyond h = rw (false-ltZ (within-low h), false-ltZ (within-high h))
 
 mag-abs : (z : ℤ) → mag z ≤ natAbs z
 mag-abs (pos n) = omega arith

@@ -1,5 +1,5 @@
 -- Flooding round by round: what is reached from 0 by arcs, n of them, from a p to b p, among m. As many rounds as there are suffice. Assumes nothing.
-use mathlib.Core.Path.{_≡_, refl, sym, ap, _∙_}
+use mathlib.Core.Path.{_≡_, refl, sym, _∙_}
 use mathlib.Core.Logic.{_⊎_, inl, inr}
 use mathlib.Core.Bool.{Bool, true, false, not, _&&_, _||_, or-true, true≢false}
 use mathlib.Core.List.{List, [], _∷_}
@@ -10,7 +10,7 @@ use lib.Dec.{eqb, ltb}
 use lib.ListN.{getD}
 use borrow.Author.Tests.{eqb-true, eq-eqb, ne-eqb, eqb-false, ltb-true, lt-ltb, not-true, not-false}
 use Rattle.whole.specs.First.{firstBelow, anyBelow, any-is, first-holds, first-le, never, none-all}
-use Rattle.whole.specs.Count.{bit, bit-le, countBelow, count-but, count-le, but, but-other, both}
+use Rattle.whole.specs.Count.{countBelow, count-but, count-le, count-less, both}
 
 -- a table of the values of f below m
 unfoldable pub tab : (ℕ → Bool) → ℕ → List Bool
@@ -53,15 +53,6 @@ pub data Reached (n : ℕ) (a b : ℕ → ℕ) : ℕ → Type 0 where
 or-cases : (x y : Bool) → (x || y) ≡ true → (x ≡ true) ⊎ (y ≡ true)
 or-cases true y e = inl refl
 or-cases false y e = inr e
-
-bit-mono : (x y : Bool) → (x ≡ true → y ≡ true) → bit x ≤ bit y
-bit-mono true y h = rw (h refl) (omega arith)
-bit-mono false y h = omega arith
-
-count-mono : (f g : ℕ → Bool) (n : ℕ) → ((p : ℕ) → p < n → f p ≡ true → g p ≡ true) → countBelow f n ≤ countBelow g n
-unfolding countBelow
-count-mono f g zero h = omega arith
-count-mono f g (suc n) h = omega (arith, count-mono f g n (λ p l. h p (omega arith)), bit-mono (f n) (g n) (h n (omega arith)))
 
 module _ (n m : ℕ) (a b : ℕ → ℕ) (ends : (p : ℕ) → p < n → b p < m) where
   R : ℕ → List Bool
@@ -124,10 +115,7 @@ module _ (n m : ℕ) (a b : ℕ → ℕ) (ends : (p : ℕ) → p < n → b p < m
   unfolding out
   grown k p l e =
       let h = both (at (R k) (a p)) (not (at (R k) (b p))) e in
-      let f = at (R (suc k)) in
-      let c = count-but f (b p) m (ends p l) (move k p l (h .0)) in
-      let o = count-mono (at (R k)) (but f (b p)) m (λ q s x. but-other f (b p) q (λ z. true≢false (sym x ∙ ap (at (R k)) z ∙ not-true _ (h .1))) (stay k q x)) in
-      omega arith
+      count-less (at (R k)) (at (R (suc k))) m (b p) (λ q s. stay k q) (ends p l) (not-true _ (h .1)) (move k p l (h .0))
 
   at-zero : 0 < m → at (R 0) 0 ≡ true
   unfolding rounds R

@@ -1,5 +1,4 @@
 -- `closed::apart` meets its contract: the law of searches, at the test that a facet has no mark. Assumes nothing.
-use borrow.Author.Needs.{needs}
 use borrow.Author.Tests.{eq-eqb, ne-eqb}
 use mathlib.Core.Path.{_∙_}
 use Prim.Native.Nat.{_-_, _≤_}

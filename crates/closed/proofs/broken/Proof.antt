@@ -1,9 +1,8 @@
 -- `closed::broken` meets its contract. The loop's invariant: `Turning`. The measure: links fall. Assumes nothing.
 use borrow.Author.Needs.{needs}
-use mathlib.Core.Path.{_≡_, sym, ap, _∙_}
-use Prim.Native.Nat.{_+_, _-_, _<_}
+use mathlib.Core.Path.{sym, _∙_}
+use Prim.Native.Nat.{_-_}
 use native.Mathlib.Omega.{arith}
-use lib.ListN.{length, getD}
 use Rattle.edges.specs.Chains.{on-0, falls}
 use Rattle.closed.specs.Turning.{Turning, turning-0, turning-more, turning-back, turning-end, turning-none}
 use Rattle.closed.proofs.broken.Statement.{statement}

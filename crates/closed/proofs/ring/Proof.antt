@@ -1,5 +1,4 @@
 -- `closed::ring` meets its contract: the law of searches, at the test `broken`. Assumes nothing.
-use borrow.Author.Needs.{needs}
 use Prim.Native.Nat.{_-_, _≤_}
 use native.Mathlib.Omega.{arith}
 use Rattle.whole.specs.First.{None, none-0, none-more, hit, miss}

@@ -1,10 +1,10 @@
 -- `closed::spread` meets its contract. The loop's invariant: the facets across the edges before place p were pushed. Assumes nothing.
 use borrow.Author.Needs.{needs}
 use mathlib.Core.Path.{_≡_, ap, _∙_}
-use Prim.Native.Nat.{_+_, _-_, _≤_, _<_}
+use Prim.Native.Nat.{_-_, _≤_, _<_}
 use native.Mathlib.Omega.{arith}
 use lib.ListN.{length, getD}
-use Rattle.whole.specs.Flood.{Queue, Spread, spread-0, spread-more, push, pushing}
+use Rattle.whole.specs.Flood.{spread-0, spread-more, push, pushing}
 use Rattle.whole.specs.Rounds.{arc}
 use Rattle.tables.specs.Tables.{facets, begin, end as endOf}
 use Rattle.tables.specs.Places.{In, home-is, in-facet}

@@ -1,7 +1,6 @@
 -- `edges::last_edge` meets its contract. The loop's invariant: the edge was met at no place of the chain before link q. The measure: links fall. Assumes nothing.
 use borrow.Author.Needs.{needs}
 use borrow.Author.Tests.{eq-eqb, ne-eqb}
-use Prim.Native.Nat.{_<_}
 use native.Mathlib.Omega.{arith}
 use Rattle.edges.specs.Chains.{Unmet, falls, unmet-0, unmet-more, unmet-here, unmet-none}
 use Rattle.edges.specs.Pair.{isEdge, edge-within, edge-entry}

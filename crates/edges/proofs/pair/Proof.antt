@@ -1,18 +1,13 @@
 -- `edges::pair` meets its contract: the law of searches over the places of the run, at the test `unpaired`. Assumes nothing.
 use borrow.Author.Needs.{needs}
-use mathlib.Core.Path.{_≡_, sym}
+use mathlib.Core.Path.{sym}
 use Prim.Native.Nat.{_≤_, _-_}
 use native.Mathlib.Omega.{arith}
-use lib.ListN.{length, getD}
+use lib.ListN.{length}
 use Rattle.whole.specs.First.{None, none-0, none-more, never}
-use Rattle.tables.specs.Tables.{homeOf}
 use Rattle.edges.specs.Homes.{home-entry}
 use Rattle.edges.specs.Flat.{flat-hit, flat-none}
 use Rattle.edges.specs.Pair.{unpaired}
-use Rattle.edges.proofs.unpaired.Reads as unpaired-reads
-use Rattle.tables.proofs.wide.Reads as wide-reads
-use Rattle.edges.proofs.pair.Reads as reads
-use Rattle.edges.proofs.pair.Lts as lts
 use Rattle.edges.proofs.pair.Statement.{statement}
 use Rattle.edges.proofs.pair.Tie as tie
 

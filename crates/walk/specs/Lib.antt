@@ -1,0 +1,11 @@
+-- The walk.
+pub mod Direction
+pub mod Step
+pub mod Best
+pub mod Ready
+pub mod Stepped
+pub mod Course
+pub mod Rise
+pub mod Climb
+pub mod Walk
+pub mod Demand3
