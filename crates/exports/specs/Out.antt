@@ -4,7 +4,7 @@ use mathlib.Core.Bool.{cond}
 use mathlib.Core.List.{List, [], _∷_}
 use Prim.Native.Nat.{ℕ}
 use lib.Dec.{ltb}
-use lib.IntN.{ℤ, pos}
+use lib.IntN.{ℤ}
 use lib.ListN.{length}
 use Rattle.tables.specs.declared.Answer.{Answer}
 use Rattle.reader.specs.declared.Reading.{Reading}
@@ -25,7 +25,7 @@ places a = three (a .first) (a .second) (a .third)
 
 -- "the record's places, then vertex, height, moves"
 abbrev pub course : Walked → List ℤ
-course w = numberOf (w .answer .first) ∷ numberOf (w .answer .second) ∷ numberOf (w .answer .third) ∷ pos (w .vertex) ∷ w .height ∷ numberOf (w .moves) ∷ []
+course w = numberOf (w .answer .first) ∷ numberOf (w .answer .second) ∷ numberOf (w .answer .third) ∷ numberOf (w .vertex) ∷ w .height ∷ numberOf (w .moves) ∷ []
 
 abbrev pub counts : Reading → List ℤ
 counts r = three (r .first) (r .second) (r .third)

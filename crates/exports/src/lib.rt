@@ -73,7 +73,7 @@ pub extern "C" fn solid_walk(
         text::number_of(answer.first),
         text::number_of(answer.second),
         text::number_of(answer.third),
-        walked.vertex as i64,
+        text::number_of(tables::wide(walked.vertex)),
         walked.height,
         text::number_of(walked.moves),
     ];
