@@ -147,7 +147,14 @@ fn walk_tape(tape: &[u8], direction: walk::Direction, start: usize) -> walk::Wal
     let c = read.third;
     let b = read.second + 1;
     let mut trail = [0u16; 1024];
-    walk::walk(&points[..p], &corners[..c], &begins[..b], direction, start, &mut trail)
+    walk::walk(
+        &points[..p],
+        &corners[..c],
+        &begins[..b],
+        direction,
+        start,
+        &mut trail,
+    )
 }
 
 // A walk's line: number, vertex, height, moves.
