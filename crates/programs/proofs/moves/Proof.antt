@@ -1,0 +1,33 @@
+-- `programs::moves` meets its contract. Assumes nothing.
+use borrow.Author.Needs.{needs, sfits-of}
+use mathlib.Core.Path.{_∙_}
+use mir.Syntax.{w64}
+use mir.Val.{SFits}
+use mir.Facts.{toZ-ofZ}
+use Rattle.programs.specs.Lines.{moves-room}
+use Rattle.programs.proofs.moves.Statement.{statement}
+use Rattle.programs.proofs.moves.Tie as tie
+
+returns : tie.Need-returns
+returns c =
+    let d = c .before .before in
+    let b = d .before in
+    let a = b .before .before in
+    let w = a .before .before .before .args .w in
+    let s : SFits w64 (w .height) = record { sfits = c .before .struct-told .given .1 .1 .0 .1 } in
+    let e = toZ-ofZ {w = w64} (sfits-of (d .number-of3 .ok)) ∙ d .number-of3 .ensures in
+    let f = toZ-ofZ {w = w64} (sfits-of (b .number-of2 .ok)) ∙ b .number-of2 .ensures in
+    let g = toZ-ofZ {w = w64} (sfits-of (a .number-of .ok)) ∙ a .number-of .ensures in
+    (rw (e, f, g, toZ-ofZ s) at (c .line4 .ensures), moves-room w s)
+
+pub moves-spec : {M : Type 1} → statement M
+moves-spec =
+    tie.close
+    (tie.spec
+    (λ c. search needs)
+    (λ c κs. search needs)
+    (λ c. search needs)
+    (λ c κs. search needs)
+    (λ c κs. search needs)
+    (λ c κs. search needs)
+    returns)

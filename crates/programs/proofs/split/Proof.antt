@@ -1,0 +1,14 @@
+-- `programs::split` meets its contract. Assumes nothing.
+use borrow.Author.Needs.{needs}
+use mathlib.Core.Path.{sym, _∙_}
+use native.Mathlib.Omega.{arith}
+use lib.ListN.{length-take}
+use Rattle.programs.specs.Input.{split-short}
+use Rattle.programs.proofs.split.Statement.{statement}
+use Rattle.programs.proofs.split.Tie as tie
+
+slice-aggregate-result : tie.Need-slice-aggregate-result
+slice-aggregate-result c = rw length-take (omega (arith, c .before .if1 .taken))
+
+pub split-spec : {M : Type 1} → statement M
+split-spec = tie.close (tie.spec slice-aggregate-result (λ c. search needs) (λ c. split-short _ (c .if1 .left)))

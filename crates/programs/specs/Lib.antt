@@ -1,0 +1,5 @@
+-- What the two programs print.
+pub mod Tape
+pub mod Input
+pub mod Lines
+pub mod Filled
