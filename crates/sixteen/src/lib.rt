@@ -1,0 +1,1 @@
+// The table of sixteen stands in specs/: this crate has no code.
