@@ -1,10 +1,8 @@
 ghost use mathlib.Core.Path.{_≡_};
-ghost use Prim.Native.Nat.{_≤_};
-ghost use lib.ListN.{length};
-ghost use Rattle.text.specs.Line.{lineOf, room, lineIn};
+ghost use Rattle.text.specs.Line.{lineIn};
 ghost use Rattle.programs.specs.Tape.{judgedTape, walkedTape};
 ghost use Rattle.programs.specs.Input.{split, vertexOf, startIn, limited, partAt, isCrowded, directionIn};
-ghost use Rattle.programs.specs.Lines.{placesOf, judgeNumbers, movesOf, walkNumbers};
+ghost use Rattle.programs.specs.Lines.{placesOf, judgeNumbers, movesOf, walkNumbers, Prints};
 
 // Reads a tape, then judges.
 fn judge_tape(tape: &[u8]) -> tables::Answer
@@ -25,7 +23,7 @@ fn judge_tape(tape: &[u8]) -> tables::Answer
 
 // An answer's line: number and three places.
 fn places(a: tables::Answer) -> text::Line
-    ensures { λ r. ⌜ (r ≡ lineIn (placesOf a)) × (length (lineOf (placesOf a)) ≤ room) ⌝ }
+    ensures { λ r. ⌜ (r ≡ lineIn (placesOf a)) × Prints r (placesOf a) ⌝ }
 {
     text::line4(
         text::number_of(a.number as usize),
@@ -37,7 +35,7 @@ fn places(a: tables::Answer) -> text::Line
 
 // What the judging program prints.
 pub fn judge_line(tape: &[u8]) -> text::Line
-    ensures { λ r. ⌜ (r ≡ lineIn (judgeNumbers (now (tape .entry)))) × (length (lineOf (judgeNumbers (now (tape .entry)))) ≤ room) ⌝ }
+    ensures { λ r. ⌜ (r ≡ lineIn (judgeNumbers (now (tape .entry)))) × Prints r (judgeNumbers (now (tape .entry))) ⌝ }
 {
     places(judge_tape(tape))
 }
@@ -159,7 +157,7 @@ fn walk_tape(tape: &[u8], direction: walk::Direction, start: usize) -> walk::Wal
 
 // A walk's line: number, vertex, height, moves.
 fn moves(w: walk::Walked) -> text::Line
-    ensures { λ r. ⌜ (r ≡ lineIn (movesOf w)) × (length (lineOf (movesOf w)) ≤ room) ⌝ }
+    ensures { λ r. ⌜ (r ≡ lineIn (movesOf w)) × Prints r (movesOf w) ⌝ }
 {
     let answer = w.answer;
     text::line4(
@@ -172,7 +170,7 @@ fn moves(w: walk::Walked) -> text::Line
 
 // What the walk program prints.
 pub fn walk_line(tape: &[u8], input: &[u8]) -> text::Line
-    ensures { λ r. ⌜ (r ≡ lineIn (walkNumbers (now (tape .entry)) (now (input .entry)))) × (length (lineOf (walkNumbers (now (tape .entry)) (now (input .entry)))) ≤ room) ⌝ }
+    ensures { λ r. ⌜ (r ≡ lineIn (walkNumbers (now (tape .entry)) (now (input .entry)))) × Prints r (walkNumbers (now (tape .entry)) (now (input .entry))) ⌝ }
 {
     moves(walk_tape(tape, direction_in(input), start_in(input)))
 }

@@ -1,8 +1,11 @@
 // Walks on the solid of the tape in the file `solid.tape`, from the start and in the direction on standard input, and prints
 // one line: number, vertex, height, moves.
+ghost use Rattle.io.specs.Counts.{Counts};
 
 // The bytes of the file, as many as there is room for; none where there is no such file.
-fn read_file(name: &[u8], tape: &mut [u8; 21510]) -> usize {
+fn read_file(name: &[u8], tape: &mut [u8; 21510]) -> usize
+    ensures { λ r. ⌜ Counts r (now (tape .exit)) ⌝ }
+{
     let file = os::open_read(name);
     if file < 0 {
         return 0;
