@@ -16,13 +16,17 @@ returns-3 : tie.Need-returns-3
 returns-3 c =
     let f = c .before .before .before in
     let e = f .before .before in
-    rw (← e .before .is-above .ensures, e .if1 .left, ← f .before .is-above2 .ensures, f .if2 .left, lt-ltb _ _ (c .if3 .taken))
+    let a = e .before .before .args in
+    let l = lt-ltb (a .next .vertex) (a .best .vertex) (c .if3 .taken) in
+    rw (← e .before .is-above .ensures, e .if1 .left, ← f .before .is-above2 .ensures, f .if2 .left, l)
 
 returns-4 : tie.Need-returns-4
 returns-4 c =
     let f = c .before .before .before in
     let e = f .before .before in
-    rw (← e .before .is-above .ensures, e .if1 .left, ← f .before .is-above2 .ensures, f .if2 .left, le-ltb _ _ (c .if3 .left))
+    let a = e .before .before .args in
+    let l = le-ltb (a .next .vertex) (a .best .vertex) (c .if3 .left) in
+    rw (← e .before .is-above .ensures, e .if1 .left, ← f .before .is-above2 .ensures, f .if2 .left, l)
 
 pub better-spec : {M : Type 1} → statement M
 better-spec = tie.close (tie.spec (λ c κs. search needs) returns (λ c κs. search needs) returns-2 returns-3 returns-4)
