@@ -3,3 +3,4 @@ pub mod Tape
 pub mod Input
 pub mod Lines
 pub mod Filled
+pub mod Meaning
