@@ -4,3 +4,4 @@ pub mod Input
 pub mod Lines
 pub mod Filled
 pub mod Meaning
+pub mod Order

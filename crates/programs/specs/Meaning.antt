@@ -37,6 +37,7 @@ module _ {v : ℕ} (few : v ≤ mostVertices) where
       size (negsuc n) l =
           let e : startOf (Number (clamp (negsuc n))) ≡ noVertex = negative (clamp (negsuc n)) (clamp-below (negsuc n) (pos 0) {N = 0} (omega arith) (record { abs = omega arith })) in
           absurd (omega arith)
+
       go : (t : Bool) → isNumber word ≡ t → startOf (cond t (Number (clamp (value word))) Malformed) < v
           → Says word (pos (startOf (cond t (Number (clamp (value word))) Malformed)))
       go true e l = record { is-number = e; is-value = size (value word) l }
@@ -53,6 +54,7 @@ part-says word h = go (isNumber word) refl h
     kept : (z : ℤ) (t : Bool) → beyond steepest z ≡ t → cond t noPart z within steepest → (z within steepest) × (cond t noPart z ≡ z)
     kept z true e h = absurd (omega (arith, h .abs))
     kept z false e h = (h, refl)
+
     go : (t : Bool) → isNumber word ≡ t → partOf (cond t (Number (clamp (value word))) Malformed) within steepest
         → Says word (partOf (cond t (Number (clamp (value word))) Malformed))
     go true e h =
@@ -82,6 +84,7 @@ direction-named input p = go (isCrowded input) refl p
   where
     other : List ℕ → ℕ → ℤ
     other input k = partOf (readOf (wordOf isBlank (split input) k))
+
     go : (t : Bool) → isCrowded input ≡ t
         → Permitted (cond t (direction noPart noPart noPart) (direction (other input 1) (other input 2) (other input 3)))
         → let d = cond t (direction noPart noPart noPart) (direction (other input 1) (other input 2) (other input 3)) in Named input (d .x) (d .y) (d .z)
