@@ -160,10 +160,11 @@ fn moves(w: walk::Walked) -> text::Line
     ensures { λ r. ⌜ (r ≡ lineIn (movesOf w)) × Prints r (movesOf w) ⌝ }
 {
     let answer = w.answer;
+    let height = w.height;
     text::line4(
         text::number_of(answer.number as usize),
         text::number_of(w.vertex as usize),
-        w.height,
+        height,
         text::number_of(w.moves),
     )
 }
