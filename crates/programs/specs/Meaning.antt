@@ -1,29 +1,29 @@
 -- What the start and the direction of the walk program's input stand for. Assumes nothing.
 use mathlib.Core.Path.{_≡_, refl, sym, ap, _∙_}
-use mathlib.Core.Bool.{Bool, true, false, cond, _||_, false≢true}
+use mathlib.Core.Bool.{Bool, true, false, cond}
 use mathlib.Core.List.{List}
-use Prim.Native.Nat.{ℕ, suc, min, _≤_, _<_}
+use Prim.Native.Nat.{ℕ, _≤_, _<_}
 use native.Mathlib.Omega.{arith}
 use lib.Dec.{ltb}
 use lib.IntN.{ℤ, pos, negsuc}
 use lib.ListN.{length}
 use borrow.Author.Tests.{ltb-false, le-ltb}
-use Rattle.whole.specs.Bounds.{_within_, within-≤, within-beyond, not-beyond, beyond}
+use Rattle.whole.specs.Bounds.{_within_, within-≤, not-beyond, beyond}
 use Rattle.whole.specs.Count.{neither}
 use Rattle.tables.specs.Tables.{mostVertices}
 use Rattle.text.specs.Words.{isBlank, words, wordOf}
 use Rattle.text.specs.Number.{isNumber, value}
-use Rattle.text.specs.Reading.{most, clamp, readOf, clamp-is, clamp-below, within-clamp}
+use Rattle.text.specs.Reading.{clamp, readOf, clamp-is, clamp-below, within-clamp}
 use Rattle.text.specs.declared.Read.the-variants.{Number, Malformed}
 use Rattle.walk.specs.Direction.{direction, steepest, Permitted}
-use Rattle.programs.specs.Input.{longest, split, startOf, noVertex, negative, limited, noPart, partOf, isCrowded, directionIn}
+use Rattle.programs.specs.Input.{longest, split, startOf, noVertex, negative, noPart, partOf, isCrowded, directionIn}
 
--- a word that is the number n or z
+-- a word is a number, of the value z
 pub record Says (word : List ℕ) (z : ℤ) : Type 0 where
   pub is-number : isNumber word ≡ true
   pub is-value : value word ≡ z
 
--- ---- the start: a word that is a number from 0 to V - 1 stands for that vertex, and no other word stands for one
+-- ---- the start: v is V, and a word that is a number from 0 to V - 1 stands for that vertex, and no other word stands for one
 
 module _ {v : ℕ} (few : v ≤ mostVertices) where
   pub says-start : {word : List ℕ} {n : ℕ} → Says word (pos n) → n < v → startOf (readOf word) ≡ n
