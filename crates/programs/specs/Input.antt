@@ -10,8 +10,10 @@ use lib.IntN.{ℤ, pos, negsuc}
 use lib.ListN.{length, take}
 use lib.Seq.{take-all}
 use lib.Signed.{ltZ}
+use mir.Syntax.{w64}
+use mir.Val.{SFits}
 use borrow.Author.Tests.{ltb-true}
-use Rattle.whole.specs.Bounds.{_within_, abs-neg, beyond, within-beyond}
+use Rattle.whole.specs.Bounds.{_within_, abs-neg, beyond, within-beyond, within-fits}
 use Rattle.text.specs.Words.{isBlank, words, wordOf}
 use Rattle.text.specs.Number.{isNumber, value}
 use Rattle.text.specs.Reading.{most, clamp, readOf}
@@ -97,13 +99,16 @@ small : (z : ℤ) → clamp z within most
 small (pos n) = record { abs = omega arith }
 small (negsuc n) = record { abs = omega (arith, abs-neg (pos (min (suc n) most))) }
 
-abbrev pub Small : Read → Type 0
-Small (Number z) = z within most
+abbrev Small : Read → Type 0
+Small (Number z) = SFits w64 z
 Small Malformed = Unit {0}
 
-pub read-small : (word : List ℕ) → Small (readOf word)
+read-small : (word : List ℕ) → Small (readOf word)
 read-small word = go (isNumber word)
   where
     go : (t : Bool) → Small (cond t (Number (clamp (value word))) Malformed)
-    go true = small (value word)
+    go true = within-fits (small (value word)) tt
     go false = tt
+
+pub small-at : (input : List ℕ) (k : ℕ) {z : ℤ} → readAt input k ≡ Number z → SFits w64 z
+small-at input k e = rw e at (read-small (wordOf isBlank (split input) k))

@@ -3,3 +3,5 @@ pub mod Tape
 pub mod Input
 pub mod Lines
 pub mod Filled
+pub mod Meaning
+pub mod Order

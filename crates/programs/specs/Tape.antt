@@ -1,7 +1,7 @@
 -- What the programs make of a tape: they read it, then judge or walk. Assumes nothing.
 use mathlib.Core.List.{List}
 use Prim.Native.Nat.{ℕ, _+_, _*_}
-use lib.IntN.{ℤ, pos}
+use lib.IntN.{ℤ}
 use lib.ListN.{replicate}
 use Rattle.tables.specs.Answer.{refused}
 use Rattle.tables.specs.declared.Answer.{Answer}

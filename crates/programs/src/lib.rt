@@ -1,7 +1,7 @@
 ghost use mathlib.Core.Path.{_≡_};
 ghost use Rattle.text.specs.Line.{lineIn};
 ghost use Rattle.programs.specs.Tape.{judgedTape, walkedTape};
-ghost use Rattle.programs.specs.Input.{split, vertexOf, startIn, limited, partAt, isCrowded, directionIn};
+ghost use Rattle.programs.specs.Input.{split, readAt, vertexOf, startIn, limited, partAt, isCrowded, directionIn};
 ghost use Rattle.programs.specs.Lines.{placesOf, judgeNumbers, movesOf, walkNumbers, Prints};
 
 // Reads a tape, then judges.
@@ -53,6 +53,13 @@ fn split(input: &[u8]) -> &[u8]
     input
 }
 
+// Word number k of the input, read as a number.
+fn read_at(input: &[u8], k: usize) -> text::Read
+    ensures { λ r. ⌜ r ≡ readAt (now (input .entry)) k ⌝ }
+{
+    text::number_at(split(input), k)
+}
+
 // No solid has so many vertices.
 const NO_VERTEX: usize = 65535;
 
@@ -70,7 +77,7 @@ fn vertex(z: i64) -> usize
 fn start_in(input: &[u8]) -> usize
     ensures { λ r. ⌜ r ≡ startIn (now (input .entry)) ⌝ }
 {
-    let read = text::number_at(split(input), 0);
+    let read = read_at(input, 0);
     match read {
         text::Read::Number(z) => vertex(z),
         text::Read::Malformed => NO_VERTEX,
@@ -97,7 +104,7 @@ fn part(z: i64) -> i32
 fn part_at(input: &[u8], k: usize) -> i32
     ensures { λ r. ⌜ r ≡ partAt (now (input .entry)) k ⌝ }
 {
-    let read = text::number_at(split(input), k);
+    let read = read_at(input, k);
     match read {
         text::Read::Number(z) => part(z),
         text::Read::Malformed => NO_PART,
@@ -160,10 +167,11 @@ fn moves(w: walk::Walked) -> text::Line
     ensures { λ r. ⌜ (r ≡ lineIn (movesOf w)) × Prints r (movesOf w) ⌝ }
 {
     let answer = w.answer;
+    let height = w.height;
     text::line4(
         text::number_of(answer.number as usize),
         text::number_of(w.vertex as usize),
-        w.height,
+        height,
         text::number_of(w.moves),
     )
 }

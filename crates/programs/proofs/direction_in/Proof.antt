@@ -1,6 +1,6 @@
 -- `programs::direction_in` meets its contract. Assumes nothing.
 use borrow.Author.Needs.{needs, sfits-of}
-use mathlib.Core.Path.{_≡_, sym, _∙_}
+use mathlib.Core.Path.{_∙_}
 use mir.Syntax.{w32}
 use mir.Facts.{toZ-ofZ}
 use Rattle.programs.specs.Input.{directionIn}

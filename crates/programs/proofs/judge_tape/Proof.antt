@@ -1,6 +1,6 @@
 -- `programs::judge_tape` meets its contract. Assumes nothing.
 use borrow.Author.Needs.{needs}
-use mathlib.Core.Path.{_∙_, ap}
+use mathlib.Core.Path.{_∙_}
 use native.Mathlib.Omega.{arith}
 use Rattle.tables.specs.Answer.{refused}
 use Rattle.judge.specs.Judge.{judged}

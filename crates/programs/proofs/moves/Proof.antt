@@ -10,11 +10,12 @@ use Rattle.programs.proofs.moves.Tie as tie
 
 returns : tie.Need-returns
 returns c =
-    let d = c .before .before in
+    let d = c .before in
     let b = d .before in
     let a = b .before .before in
-    let w = a .before .before .before .args .w in
-    let s : SFits w64 (w .height) = record { sfits = c .before .struct-told .given .1 .1 .0 .1 } in
+    let t = a .before .before in
+    let w = t .before .before .args .w in
+    let s : SFits w64 (w .height) = record { sfits = t .struct-told .given .1 .1 .0 .1 } in
     let e = toZ-ofZ {w = w64} (sfits-of (d .number-of3 .ok)) ∙ d .number-of3 .ensures in
     let f = toZ-ofZ {w = w64} (sfits-of (b .number-of2 .ok)) ∙ b .number-of2 .ensures in
     let g = toZ-ofZ {w = w64} (sfits-of (a .number-of .ok)) ∙ a .number-of .ensures in

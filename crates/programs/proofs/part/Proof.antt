@@ -1,10 +1,10 @@
 -- `programs::part` meets its contract. Assumes nothing.
-use borrow.Author.Needs.{needs}
-use mathlib.Core.Path.{_≡_, sym, ap, _∙_}
+use mathlib.Core.Path.{_≡_}
 use mir.Syntax.{w32}
 use mir.Val.{SFits}
 use mir.Facts.{toZ-ofZ}
 use Rattle.whole.specs.Bounds.{_within_, within-fits}
+use Rattle.walk.specs.Direction.{steepest}
 use Rattle.programs.specs.Input.{limited, part-low, part-high, part-within}
 use Rattle.programs.proofs.part.Statement.{statement}
 use Rattle.programs.proofs.part.Tie as tie
@@ -16,7 +16,7 @@ returns-2 c =
     part-high (s .args .z) (rw f at (c .before .if1 .left)) (rw f at (c .if2 .taken))
 
 module _ (c : tie.Else2) where
-  inside : c .before .before .args .z within 32767 × (c .before .before .args .z ≡ limited (c .before .before .args .z))
+  inside : c .before .before .args .z within steepest × (c .before .before .args .z ≡ limited (c .before .before .args .z))
   inside =
       let s = c .before .before in
       let f = toZ-ofZ (s .fits .z) in

@@ -1,11 +1,9 @@
 -- `programs::vertex` meets its contract. Assumes nothing.
-use borrow.Author.Needs.{needs}
 use mathlib.Core.Path.{_≡_, sym, ap}
 use lib.IntN.{pos, natAbs}
 use mir.Syntax.{w64}
 use mir.Val.{SFits}
 use mir.Facts.{toZ-ofZ, fits-natAbs}
-use Rattle.whole.specs.Machine.{read}
 use Rattle.programs.specs.Input.{vertexOf, negative, natural}
 use Rattle.programs.proofs.vertex.Statement.{statement}
 use Rattle.programs.proofs.vertex.Tie as tie

@@ -1,7 +1,5 @@
 -- `programs::walk_line` meets its contract. Assumes nothing.
 use borrow.Author.Needs.{needs}
-use mathlib.Core.Path.{_∙_, ap}
-use Rattle.programs.specs.Tape.{walkedTape}
 use Rattle.programs.proofs.walk_line.Statement.{statement}
 use Rattle.programs.proofs.walk_line.Tie as tie
 
