@@ -4,7 +4,7 @@ use mathlib.Core.Path.{_∙_}
 use mir.Syntax.{w64}
 use mir.Val.{SFits}
 use mir.Facts.{toZ-ofZ}
-use Rattle.programs.specs.Lines.{moves-line}
+use Rattle.programs.specs.Lines.{movesOf, printed}
 use Rattle.programs.proofs.moves.Statement.{statement}
 use Rattle.programs.proofs.moves.Tie as tie
 
@@ -19,7 +19,7 @@ returns c =
     let e = toZ-ofZ {w = w64} (sfits-of (d .number-of3 .ok)) ∙ d .number-of3 .ensures in
     let f = toZ-ofZ {w = w64} (sfits-of (b .number-of2 .ok)) ∙ b .number-of2 .ensures in
     let g = toZ-ofZ {w = w64} (sfits-of (a .number-of .ok)) ∙ a .number-of .ensures in
-    moves-line w s (rw (e, f, g, toZ-ofZ s) at (c .line4 .ensures))
+    printed (movesOf w) (rw (e, f, g, toZ-ofZ s) at (c .line4 .ensures))
 
 pub moves-spec : {M : Type 1} → statement M
 moves-spec =

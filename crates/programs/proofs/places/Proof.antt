@@ -3,7 +3,7 @@ use borrow.Author.Needs.{needs, sfits-of}
 use mathlib.Core.Path.{_∙_}
 use mir.Syntax.{w64}
 use mir.Facts.{toZ-ofZ}
-use Rattle.programs.specs.Lines.{places-line}
+use Rattle.programs.specs.Lines.{placesOf, printed}
 use Rattle.programs.proofs.places.Statement.{statement}
 use Rattle.programs.proofs.places.Tie as tie
 
@@ -17,7 +17,7 @@ returns c =
     let f = toZ-ofZ {w = w64} (sfits-of (k .number-of3 .ok)) ∙ k .number-of3 .ensures in
     let g = toZ-ofZ {w = w64} (sfits-of (b .number-of2 .ok)) ∙ b .number-of2 .ensures in
     let h = toZ-ofZ {w = w64} (sfits-of (a .number-of .ok)) ∙ a .number-of .ensures in
-    places-line (a .before .before .args .a) (rw (e, f, g, h) at (c .line4 .ensures))
+    printed (placesOf (a .before .before .args .a)) (rw (e, f, g, h) at (c .line4 .ensures))
 
 pub places-spec : {M : Type 1} → statement M
 places-spec =
