@@ -7,9 +7,10 @@ use lib.ListN.{length}
 use Rattle.space.specs.Points.{vertices}
 use Rattle.tape.specs.Reading.{readTape, pointsAt, cornersAt, beginsAt}
 use Rattle.tape.specs.declared.Outcome.the-variants.{Read, Refused}
+use Rattle.judge.specs.Judge.{judged}
 use Rattle.judge.specs.Meaning.{is-measured}
 use Rattle.walk.specs.Walk.{walked}
-use Rattle.walk.specs.Meaning.{Accepted, Row, row-is}
+use Rattle.walk.specs.Meaning.{Row, row-is}
 use Rattle.walk.specs.declared.Walked.{Walked}
 use Rattle.text.specs.Line.{numberOf}
 use Rattle.programs.specs.Tape.{trail, walkedTape}
@@ -44,5 +45,5 @@ module _ (tape input : List ℕ) where
     by-row x = ap movesOf (is-walked ∙ sym (row-is points corners begins (directionIn input) (startIn input) trail x .0))
 
     -- the trail has room, so 15 is never given
-    pub has-room : Accepted points corners begins → vertices points ≤ length trail
+    pub has-room : judged points corners begins .number ≡ 0 → vertices points ≤ length trail
     has-room accepted = is-measured points corners begins accepted .sound .named .few
