@@ -1,5 +1,6 @@
 -- Number 7, RING: "the facets at a vertex, stepped across edges at that vertex, make more than one ring". Assumes nothing.
 use mathlib.Core.Path.{_≡_, ap, _∙_}
+use mathlib.Core.Logic.{_↔_}
 use mathlib.Core.Bool.{Bool, true, false}
 use mathlib.Core.List.{List}
 use Prim.Native.Nat.{ℕ, _+_, _-_, _<_}
@@ -9,7 +10,7 @@ use native.Mathlib.Decide.{decLt}
 use lib.Dec.{eqb}
 use lib.ListN.{length}
 use borrow.Author.Tests.{eqb-true, eqb-false, eq-eqb}
-use Rattle.whole.specs.First.{anyBelow, any-false, any-none}
+use Rattle.whole.specs.First.{firstBelow, anyBelow, any-false, any-none, some-first, first-holds}
 use Rattle.whole.specs.Count.{is-false, countBelow, count-but, last, some-last}
 use Rattle.whole.specs.Orbit.{iterate, Steps, NoReturn, reached, missed, return-first}
 use Rattle.tables.specs.Tables.{from}
@@ -112,6 +113,29 @@ module _ {corners begins : List ℕ} (L : Laid corners begins) (P : Paired corne
         ring-from (z .below) s (λ q m t. o .met _ q (z .below) m s t)
     | no h ↦ any-none (backAt corners begins (start corners v)) (degree corners v - 1) (λ i b. absurd (omega arith))
   ]
+
+-- ---- the ring that starts at the first facet at the vertex
+
+-- the first place of an edge that leaves v
+abbrev pub firstOf : List ℕ → ℕ → ℕ
+firstOf corners v = firstBelow (leaves corners v) (length corners)
+
+-- its ring holds every facet at v
+abbrev pub HoldsAll : List ℕ → List ℕ → ℕ → Type 0
+HoldsAll corners begins v = (q : ℕ) → q < length corners → from corners q ≡ v → Stepped corners begins (firstOf corners v) q
+
+module _ {corners begins : List ℕ} (L : Laid corners begins) (P : Paired corners begins) (v : ℕ) where
+  begun : {q : ℕ} → q < length corners → from corners q ≡ v → (firstOf corners v < length corners) × (from corners (firstOf corners v) ≡ v)
+  begun {q} l s =
+      let b = some-first (leaves corners v) (length corners) q l (eq-eqb _ _ s) in
+      (b, eqb-true _ _ (first-holds (leaves corners v) (length corners) b))
+
+  -- RING leaves v be exactly where that ring holds all: the place from which it is followed makes no difference
+  pub first-ring : broken corners begins v ≡ false ↔ HoldsAll corners begins v
+  first-ring = (
+    λ e q l s. let (b, t) = begun l s in one-ring L P v e .met (firstOf corners v) q b l t s,
+    λ all. ring-one L P v (record { met = λ p q l m s t. let (b, u) = begun l s in one-ring L P v (ring-from L P v b u all) .met p q l m s t }),
+  )
 
 -- ---- RING finds nothing exactly where the facets at each vertex make one ring
 
