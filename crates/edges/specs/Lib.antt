@@ -6,4 +6,5 @@ pub mod Index
 pub mod Flat
 pub mod Pair
 pub mod Across
+pub mod Answered
 pub mod Neighbours

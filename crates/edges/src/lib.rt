@@ -1,7 +1,8 @@
 ghost use mathlib.Core.Path.{_≡_};
-ghost use Prim.Native.Nat.{_+_, _<_};
+ghost use Prim.Native.Nat.{_+_, _-_, _<_};
 ghost use lib.Dec.{eqb};
 ghost use lib.ListN.{length, replicate};
+ghost use Rattle.whole.specs.First.{anyBelow};
 ghost use Rattle.whole.specs.Count.{bit};
 ghost use Rattle.whole.specs.Filled.{Filled};
 ghost use Rattle.tables.specs.Tables.{mostVertices, nextIn, to};
@@ -10,8 +11,9 @@ ghost use Rattle.tables.specs.Places.{Named, In};
 ghost use Rattle.edges.specs.Homes.{Homes, homeOn};
 ghost use Rattle.edges.specs.Chains.{Chains};
 ghost use Rattle.edges.specs.Index.{Leaving, Index};
-ghost use Rattle.edges.specs.Pair.{times, unpaired, pair, Paired};
-ghost use Rattle.edges.specs.Across.{lastEdge, Across};
+ghost use Rattle.edges.specs.Pair.{times, unpaired, pair};
+ghost use Rattle.edges.specs.Across.{lastEdge, acrossOf};
+ghost use Rattle.edges.specs.Answered.{Answers, unanswered};
 
 // The facet of place p, where f is that of the place before, or the first.
 fn home_on(begins: &[u16], f: usize, p: usize) -> usize
@@ -24,12 +26,11 @@ fn home_on(begins: &[u16], f: usize, p: usize) -> usize
     f
 }
 
-// The facet of each place of the run.
-pub fn homes(corners: &[u16], begins: &[u16]) -> [u16; 6144]
-    requires { ⌜ Laid (now corners) (now begins) ⌝ }
-    ensures { λ r. ⌜ Homes (now (corners .entry)) (now (begins .entry)) r ⌝ }
+// The facet of each place of the run, in a table that is lent blank, as all of the index are: one that is returned is copied.
+fn homes(corners: &[u16], begins: &[u16], home: &mut [u16; 6144])
+    requires { ⌜ Laid (now corners) (now begins) × (now home ≡ replicate 6144 0) ⌝ }
+    ensures { λ _. ⌜ Homes (now (corners .entry)) (now (begins .entry)) (now (home .exit)) ⌝ }
 {
-    let mut home = [0u16; 6144];
     let mut f = 0;
     let mut p = 0;
     while p < corners.len() {
@@ -37,7 +38,6 @@ pub fn homes(corners: &[u16], begins: &[u16]) -> [u16; 6144]
         home[p] = f as u16;
         p += 1;
     }
-    home
 }
 
 // The next place after p in facet f.
@@ -54,26 +54,23 @@ pub fn next_in(begins: &[u16], f: usize, p: usize) -> usize
 }
 
 // The vertex at which the edge of each place ends.
-pub fn ends(corners: &[u16], begins: &[u16], home: &[u16; 6144]) -> [u16; 6144]
-    requires { ⌜ Homes (now corners) (now begins) (now home) ⌝ }
-    ensures { λ r. ⌜ Filled 6144 r (to (now (corners .entry)) (now (begins .entry))) (length (now (corners .entry))) ⌝ }
+fn fill_ends(corners: &[u16], begins: &[u16], home: &[u16; 6144], ends: &mut [u16; 6144])
+    requires { ⌜ Homes (now corners) (now begins) (now home) × (now ends ≡ replicate 6144 0) ⌝ }
+    ensures { λ _. ⌜ Filled 6144 (now (ends .exit)) (to (now (corners .entry)) (now (begins .entry))) (length (now (corners .entry))) ⌝ }
 {
-    let mut ends = [0u16; 6144];
     let mut p = 0;
     while p < corners.len() {
         let q = next_in(begins, tables::wide(home[p]), p);
         ends[p] = corners[q];
         p += 1;
     }
-    ends
 }
 
-// The chains of the places that leave each vertex: their heads in `last`, which is lent blank, and the links.
-pub fn chains(corners: &[u16], last: &mut [u16; 1024]) -> [u16; 6144]
-    requires { ⌜ Named mostVertices (now corners) × (now last ≡ replicate 1024 0) ⌝ }
-    ensures { λ r. ⌜ Chains (now (corners .entry)) (now (last .exit)) r (length (now (corners .entry))) ⌝ }
+// The chains of the places that leave each vertex: their heads, and the links.
+fn chains(corners: &[u16], last: &mut [u16; 1024], back: &mut [u16; 6144])
+    requires { ⌜ Named mostVertices (now corners) × (now last ≡ replicate 1024 0) × (now back ≡ replicate 6144 0) ⌝ }
+    ensures { λ _. ⌜ Chains (now (corners .entry)) (now (last .exit)) (now (back .exit)) (length (now (corners .entry))) ⌝ }
 {
-    let mut back = [0u16; 6144];
     let mut p = 0;
     while p < corners.len() {
         let v = tables::wide(corners[p]);
@@ -81,7 +78,24 @@ pub fn chains(corners: &[u16], last: &mut [u16; 1024]) -> [u16; 6144]
         last[v] = (p + 1) as u16;
         p += 1;
     }
-    back
+}
+
+// Builds the index of the edges: for each place its facet and where its edge ends, and the chains of the places that leave each vertex.
+pub fn build(
+    corners: &[u16],
+    begins: &[u16],
+    home: &mut [u16; 6144],
+    ends: &mut [u16; 6144],
+    last: &mut [u16; 1024],
+    back: &mut [u16; 6144],
+)
+    requires { ⌜ Laid (now corners) (now begins) × Named mostVertices (now corners) ⌝ }
+    requires { ⌜ (now home ≡ replicate 6144 0) × (now ends ≡ replicate 6144 0) × (now last ≡ replicate 1024 0) × (now back ≡ replicate 6144 0) ⌝ }
+    ensures { λ _. ⌜ Index (now (corners .entry)) (now (begins .entry)) (now (home .exit)) (now (ends .exit)) (now (last .exit)) (now (back .exit)) ⌝ }
+{
+    homes(corners, begins, home);
+    fill_ends(corners, begins, home, ends);
+    chains(corners, last, back);
 }
 
 // 1 where the two are the same, else 0.
@@ -137,29 +151,6 @@ fn unpaired(
     times(corners, begins, ends, last, back, b, a) != 1
 }
 
-// Number 6, PAIR: its first place.
-pub fn pair(
-    corners: &[u16],
-    begins: &[u16],
-    home: &[u16; 6144],
-    ends: &[u16; 6144],
-    last: &[u16; 1024],
-    back: &[u16; 6144],
-) -> tables::Found
-    requires { ⌜ Index (now corners) (now begins) (now home) (now ends) (now last) (now back) ⌝ }
-    ensures { λ r. ⌜ r ≡ pair (now (corners .entry)) (now (begins .entry)) ⌝ }
-{
-    let mut p = 0;
-    while p < corners.len() {
-        if unpaired(corners, begins, ends, last, back, p) {
-            let f = tables::wide(home[p]);
-            return tables::Found::At(f, p - tables::wide(begins[f]));
-        }
-        p += 1;
-    }
-    tables::Found::Nothing
-}
-
 // One more than the last place of the directed edge from a to b, or 0: along the chain of a.
 fn last_edge(
     corners: &[u16],
@@ -184,23 +175,116 @@ fn last_edge(
     0
 }
 
-// For each place that of the reverse of its edge.
+// The place whose number is one less, or 0.
+fn place_before(q: usize) -> usize
+    ensures { λ r. ⌜ r ≡ q - 1 ⌝ }
+{
+    if q == 0 {
+        return 0;
+    }
+    q - 1
+}
+
+// For each place the last one of the reverse of its edge.
 pub fn across(
     corners: &[u16],
     begins: &[u16],
     ends: &[u16; 6144],
     last: &[u16; 1024],
     back: &[u16; 6144],
-) -> [u16; 6144]
-    requires { ⌜ Leaving (now corners) (now begins) (now ends) (now last) (now back) × Paired (now corners) (now begins) ⌝ }
-    ensures { λ r. ⌜ Across (now (corners .entry)) (now (begins .entry)) r ⌝ }
+    across: &mut [u16; 6144],
+)
+    requires { ⌜ Leaving (now corners) (now begins) (now ends) (now last) (now back) × (now across ≡ replicate 6144 0) ⌝ }
+    ensures { λ _. ⌜ Filled 6144 (now (across .exit)) (acrossOf (now (corners .entry)) (now (begins .entry))) (length (now (corners .entry))) ⌝ }
 {
-    let mut across = [0u16; 6144];
     let mut p = 0;
     while p < corners.len() {
         let q = last_edge(corners, begins, ends, last, back, ends[p], corners[p]);
-        across[p] = (q - 1) as u16;
+        across[p] = place_before(q) as u16;
         p += 1;
     }
-    across
+}
+
+// Whether the place across from p isn't one of the reverse of its edge, or has another place across from it.
+fn is_unanswered(
+    corners: &[u16],
+    begins: &[u16],
+    ends: &[u16; 6144],
+    across: &[u16; 6144],
+    p: usize,
+) -> bool
+    requires { ⌜ Answers (now corners) (now begins) (now ends) (now across) × (p < length (now corners)) ⌝ }
+    ensures { λ r. ⌜ r ≡ unanswered (now (corners .entry)) (now (begins .entry)) p ⌝ }
+{
+    let q = tables::wide(across[p]);
+    if tables::wide(across[q]) != p {
+        return true;
+    }
+    if corners[q] != ends[p] {
+        return true;
+    }
+    ends[q] != corners[p]
+}
+
+// Whether some place is unanswered.
+fn some_unanswered(
+    corners: &[u16],
+    begins: &[u16],
+    ends: &[u16; 6144],
+    across: &[u16; 6144],
+) -> bool
+    requires { ⌜ Answers (now corners) (now begins) (now ends) (now across) ⌝ }
+    ensures { λ r. ⌜ r ≡ anyBelow (unanswered (now (corners .entry)) (now (begins .entry))) (length (now (corners .entry))) ⌝ }
+{
+    let mut p = 0;
+    while p < corners.len() {
+        if is_unanswered(corners, begins, ends, across, p) {
+            return true;
+        }
+        p += 1;
+    }
+    false
+}
+
+// PAIR place by place.
+fn first_unpaired(
+    corners: &[u16],
+    begins: &[u16],
+    home: &[u16; 6144],
+    ends: &[u16; 6144],
+    last: &[u16; 1024],
+    back: &[u16; 6144],
+) -> tables::Found
+    requires { ⌜ Index (now corners) (now begins) (now home) (now ends) (now last) (now back) ⌝ }
+    ensures { λ r. ⌜ r ≡ pair (now (corners .entry)) (now (begins .entry)) ⌝ }
+{
+    let mut p = 0;
+    while p < corners.len() {
+        if unpaired(corners, begins, ends, last, back, p) {
+            let f = tables::wide(home[p]);
+            return tables::Found::At(f, p - tables::wide(begins[f]));
+        }
+        p += 1;
+    }
+    tables::Found::Nothing
+}
+
+// Number 6, PAIR: its first place. Where every place is answered it applies nowhere, so edges are counted only where one isn't.
+pub fn pair(
+    corners: &[u16],
+    begins: &[u16],
+    home: &[u16; 6144],
+    ends: &[u16; 6144],
+    last: &[u16; 1024],
+    back: &[u16; 6144],
+    across: &[u16; 6144],
+) -> tables::Found
+    requires { ⌜ Index (now corners) (now begins) (now home) (now ends) (now last) (now back) ⌝ }
+    requires { ⌜ Filled 6144 (now across) (acrossOf (now corners) (now begins)) (length (now corners)) ⌝ }
+    ensures { λ r. ⌜ r ≡ pair (now (corners .entry)) (now (begins .entry)) ⌝ }
+{
+    if some_unanswered(corners, begins, ends, across) {
+        return first_unpaired(corners, begins, home, ends, last, back);
+    }
+    tables::Found::Nothing
 }

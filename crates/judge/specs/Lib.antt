@@ -1,5 +1,6 @@
 -- The judge's answer, and what it means.
 pub mod Judge
 pub mod Stages
+pub mod Indexed
 pub mod Meaning
 pub mod Rows

@@ -1,9 +1,10 @@
 ghost use mathlib.Core.Path.{_≡_};
-ghost use Rattle.edges.specs.Index.{Index};
+ghost use Rattle.edges.specs.Index.{Leaving, Index};
 ghost use Rattle.edges.specs.Across.{Across};
 ghost use Rattle.flat.specs.Facet.{Measured};
 ghost use Rattle.judge.specs.Judge.{fromBent, fromRing, fromPair, fromRepeat, judged};
 ghost use Rattle.judge.specs.Stages.{UpTo5, UpTo6, UpTo8};
+ghost use Rattle.judge.specs.Indexed.{Blank, Indexed};
 
 // Numbers 9 to 12.
 fn from_bent(
@@ -48,43 +49,61 @@ fn from_ring(
     ends: &[u16; 6144],
     last: &[u16; 1024],
     back: &[u16; 6144],
+    across: &[u16; 6144],
 ) -> tables::Answer
     requires { ⌜ UpTo6 (now points) (now corners) (now begins) ⌝ }
-    requires { ⌜ Index (now corners) (now begins) (now home) (now ends) (now last) (now back) ⌝ }
+    requires { ⌜ Index (now corners) (now begins) (now home) (now ends) (now last) (now back) × Across (now corners) (now begins) (now across) ⌝ }
     ensures { λ r. ⌜ r ≡ fromRing (now (points .entry)) (now (corners .entry)) (now (begins .entry)) ⌝ }
 {
-    let across = edges::across(corners, begins, ends, last, back);
-    let ring = closed::ring(corners, begins, home, last, back, &across, points.len() / 3);
+    let ring = closed::ring(corners, begins, home, last, back, across, points.len() / 3);
     if let tables::Found::At(v, z) = ring {
         return tables::Answer::refused(7, v, z);
     }
-    let apart = closed::apart(corners, begins, home, &across);
+    let apart = closed::apart(corners, begins, home, across);
     if let tables::Found::At(f, z) = apart {
         return tables::Answer::refused(8, f, z);
     }
-    from_bent(points, corners, begins, home, ends, last, back, &across)
+    from_bent(points, corners, begins, home, ends, last, back, across)
 }
 
 // Numbers 6 to 12: the index of the edges is built once and serves them all.
-fn from_pair(points: &[i32], corners: &[u16], begins: &[u16]) -> tables::Answer
+fn from_pair(
+    points: &[i32],
+    corners: &[u16],
+    begins: &[u16],
+    ends: &mut [u16; 6144],
+    last: &mut [u16; 1024],
+    back: &mut [u16; 6144],
+) -> tables::Answer
     requires { ⌜ UpTo5 (now points) (now corners) (now begins) ⌝ }
+    requires { ⌜ Blank (now ends) (now last) (now back) ⌝ }
     ensures { λ r. ⌜ r ≡ fromPair (now (points .entry)) (now (corners .entry)) (now (begins .entry)) ⌝ }
+    ensures { λ _. ⌜ Leaving (now (corners .entry)) (now (begins .entry)) (now (ends .exit)) (now (last .exit)) (now (back .exit)) ⌝ }
 {
-    let home = edges::homes(corners, begins);
-    let ends = edges::ends(corners, begins, &home);
-    let mut last = [0u16; 1024];
-    let back = edges::chains(corners, &mut last);
-    let pair = edges::pair(corners, begins, &home, &ends, &last, &back);
+    let mut home = [0u16; 6144];
+    edges::build(corners, begins, &mut home, ends, last, back);
+    let mut across = [0u16; 6144];
+    edges::across(corners, begins, ends, last, back, &mut across);
+    let pair = edges::pair(corners, begins, &home, ends, last, back, &across);
     if let tables::Found::At(f, p) = pair {
         return tables::Answer::refused(6, f, p);
     }
-    from_ring(points, corners, begins, &home, &ends, &last, &back)
+    from_ring(points, corners, begins, &home, ends, last, back, &across)
 }
 
 // Numbers 4 to 12.
-fn from_repeat(points: &[i32], corners: &[u16], begins: &[u16]) -> tables::Answer
+fn from_repeat(
+    points: &[i32],
+    corners: &[u16],
+    begins: &[u16],
+    ends: &mut [u16; 6144],
+    last: &mut [u16; 1024],
+    back: &mut [u16; 6144],
+) -> tables::Answer
     requires { ⌜ Measured (now points) (now corners) (now begins) ⌝ }
+    requires { ⌜ Blank (now ends) (now last) (now back) ⌝ }
     ensures { λ r. ⌜ r ≡ fromRepeat (now (points .entry)) (now (corners .entry)) (now (begins .entry)) ⌝ }
+    ensures { λ r. ⌜ Indexed r (now (corners .entry)) (now (begins .entry)) (now (ends .exit)) (now (last .exit)) (now (back .exit)) ⌝ }
 {
     let repeat = tables::repeat(corners, begins);
     if let tables::Found::At(f, p) = repeat {
@@ -94,12 +113,21 @@ fn from_repeat(points: &[i32], corners: &[u16], begins: &[u16]) -> tables::Answe
     if let tables::Found::At(v, z) = unused {
         return tables::Answer::refused(5, v, z);
     }
-    from_pair(points, corners, begins)
+    from_pair(points, corners, begins, ends, last, back)
 }
 
-// The judge of a solid: its one answer to the three lent tables, which are only read.
-pub fn judge(points: &[i32], corners: &[u16], begins: &[u16]) -> tables::Answer
+// The judge of a solid, which leaves the edges that leave each vertex of an accepted one in three tables that are lent blank.
+pub fn judge_with_index(
+    points: &[i32],
+    corners: &[u16],
+    begins: &[u16],
+    ends: &mut [u16; 6144],
+    last: &mut [u16; 1024],
+    back: &mut [u16; 6144],
+) -> tables::Answer
+    requires { ⌜ Blank (now ends) (now last) (now back) ⌝ }
     ensures { λ r. ⌜ r ≡ judged (now (points .entry)) (now (corners .entry)) (now (begins .entry)) ⌝ }
+    ensures { λ r. ⌜ Indexed r (now (corners .entry)) (now (begins .entry)) (now (ends .exit)) (now (last .exit)) (now (back .exit)) ⌝ }
 {
     if tables::size(points, corners, begins) {
         return tables::Answer::refused(1, 0, 0);
@@ -112,5 +140,15 @@ pub fn judge(points: &[i32], corners: &[u16], begins: &[u16]) -> tables::Answer
     if let tables::Found::At(f, p) = index {
         return tables::Answer::refused(3, f, p);
     }
-    from_repeat(points, corners, begins)
+    from_repeat(points, corners, begins, ends, last, back)
+}
+
+// The judge of a solid: its one answer to the three lent tables, which are only read.
+pub fn judge(points: &[i32], corners: &[u16], begins: &[u16]) -> tables::Answer
+    ensures { λ r. ⌜ r ≡ judged (now (points .entry)) (now (corners .entry)) (now (begins .entry)) ⌝ }
+{
+    let mut ends = [0u16; 6144];
+    let mut last = [0u16; 1024];
+    let mut back = [0u16; 6144];
+    judge_with_index(points, corners, begins, &mut ends, &mut last, &mut back)
 }

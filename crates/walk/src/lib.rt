@@ -245,36 +245,6 @@ fn climb(
     here
 }
 
-// Builds the index of the edges, and climbs.
-fn set_out(
-    points: &[i32],
-    corners: &[u16],
-    begins: &[u16],
-    direction: Direction,
-    start: u16,
-    trail: &mut [u16],
-) -> Standing
-    requires { ⌜ Climbs (now points) (now corners) (now begins) direction start (now trail) ⌝ }
-    ensures { λ r. ⌜ r ≡ finish (now (points .entry)) (now (corners .entry)) (now (begins .entry)) direction start ⌝ }
-    ensures { λ r. ⌜ now (trail .exit) ≡ trailed (now (points .entry)) (now (corners .entry)) (now (begins .entry)) direction start (now (trail .entry)) ⌝ }
-{
-    let home = edges::homes(corners, begins);
-    let ends = edges::ends(corners, begins, &home);
-    let mut last = [0u16; 1024];
-    let back = edges::chains(corners, &mut last);
-    climb(
-        points,
-        corners,
-        begins,
-        &ends,
-        &last,
-        &back,
-        direction,
-        start,
-        trail,
-    )
-}
-
 // The walk's answer: the number and places beside the last vertex, its height, and the moves.
 pub struct Walked {
     pub answer: tables::Answer,
@@ -327,7 +297,10 @@ pub fn walk(
     ensures { λ r. ⌜ r ≡ walked (now (points .entry)) (now (corners .entry)) (now (begins .entry)) direction start (now (trail .entry)) ⌝ }
     ensures { λ r. ⌜ now (trail .exit) ≡ trailAfter (now (points .entry)) (now (corners .entry)) (now (begins .entry)) direction start (now (trail .entry)) ⌝ }
 {
-    let answer = judge::judge(points, corners, begins);
+    let mut ends = [0u16; 6144];
+    let mut last = [0u16; 1024];
+    let mut back = [0u16; 6144];
+    let answer = judge::judge_with_index(points, corners, begins, &mut ends, &mut last, &mut back);
     if answer.number != 0 {
         return Walked::halted(answer);
     }
@@ -341,5 +314,15 @@ pub fn walk(
     if trail.len() < vertices {
         return Walked::refused(15);
     }
-    Walked::arrived(set_out(points, corners, begins, direction, start as u16, trail))
+    Walked::arrived(climb(
+        points,
+        corners,
+        begins,
+        &ends,
+        &last,
+        &back,
+        direction,
+        start as u16,
+        trail,
+    ))
 }

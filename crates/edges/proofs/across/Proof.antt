@@ -1,13 +1,15 @@
 -- `edges::across` meets its contract. The loop's invariant: the places below p are filled. Assumes nothing.
 use borrow.Author.Needs.{needs}
-use mathlib.Core.Path.{_≡_}
+use mathlib.Core.Path.{_≡_, _∙_}
 use Prim.Native.Nat.{_≤_, _-_}
 use native.Mathlib.Omega.{arith}
 use lib.ListN.{length}
 use Rattle.whole.specs.Filled.{Filled, filled-0, filled-more}
 use Rattle.edges.specs.Index.{to-small}
-use Rattle.edges.specs.Across.{acrossOf, across-is, some-reverse, across}
+use Rattle.edges.specs.Across.{acrossOf, across-is}
+use Rattle.edges.specs.Answered.{across-below}
 use Rattle.edges.proofs.last_edge.Reads as last-edge-reads
+use Rattle.edges.proofs.place_before.Reads as place-before-reads
 use Rattle.edges.proofs.across.Reads as reads
 use Rattle.edges.proofs.across.Lts as lts
 use Rattle.edges.proofs.across.Statement.{statement}
@@ -25,39 +27,33 @@ last-edge-requires c κs =
     let s = l .before .before .before in
     (s .pre .0, rw (s .pre .0 .filled .at (l .loop .p) (omega arith)) (to-small (s .pre .0) {p = l .loop .p} (omega arith)))
 
-room : tie.Need-array-write-across Inv-loop μ-loop
-room c = omega (arith, c .before .before .before .before .before .before .before .pre .0 .laid .short)
-
-some : tie.Need-sub-across Inv-loop μ-loop
-some c =
-    let l = c .before .before .before .before in
-    let s = l .before .before .before in
-    rw (c .last-edge .ensures, s .pre .0 .filled .at (l .loop .p) (omega arith)) (some-reverse (s .pre .1) (omega arith))
+room : tie.Need-element-write-across Inv-loop μ-loop
+room c = omega (arith, c .before .before .before .before .before .before .before .before .pre .0 .laid .short)
 
 -- what is stored
-is : (c : lts.After-last-edge (last-edge-reads.Asked, last-edge-reads.Learnt) reads.Pre reads.Post Inv-loop μ-loop)
-    → let l = c .before .before .before .before in
+is : (c : lts.After-place-before (last-edge-reads.Asked, last-edge-reads.Learnt, place-before-reads.Asked, place-before-reads.Learnt) reads.Pre reads.Post Inv-loop μ-loop)
+    → let l = c .before .before .before .before .before in
     let a = l .before .before .before .args in
-    c .last-edge .result - 1 ≡ acrossOf (a .corners .now) (a .begins .now) (l .loop .p)
+    c .place-before .result ≡ acrossOf (a .corners .now) (a .begins .now) (l .loop .p)
 is c =
-    let l = c .before .before .before .before in
+    let l = c .before .before .before .before .before in
     let s = l .before .before .before in
-    across-is (s .args .corners .now) (s .args .begins .now) (l .loop .p) (c .last-edge .ensures) (s .pre .0 .filled .at (l .loop .p) (omega arith))
+    c .place-before .ensures
+    ∙ across-is (s .args .corners .now) (s .args .begins .now) (l .loop .p) (c .before .last-edge .ensures) (s .pre .0 .filled .at (l .loop .p) (omega arith))
 
 fits : tie.Need-cast-across Inv-loop μ-loop
 fits c =
-    let l = c .before .before .before .before in
+    let l = c .before .before .before .before .before in
     let s = l .before .before .before in
-    omega (arith, is c, across (s .pre .1) {p = l .loop .p} (omega arith) .below, s .pre .0 .laid .short)
+    omega (arith, is c, across-below (s .args .corners .now) (s .args .begins .now) {p = l .loop .p} (omega arith), s .pre .0 .laid .short)
 
 loop-again : tie.Need-loop-again Inv-loop μ-loop
-loop-again c = (omega arith, filled-more _ (c .before .before .before .before .loop .inv .1) (room c) (is c))
+loop-again c = (omega arith, filled-more _ (c .before .before .before .before .before .loop .inv .1) (room c) (is c))
 
 returns : tie.Need-returns Inv-loop μ-loop
 returns c =
-    let s = c .before .before .before .before in
-    let e : length (s .args .corners .now) ≡ c .before .loop .p = omega arith in
-    record { paired = s .pre .1; filled = rw e (c .before .loop .inv .1) }
+    let e : length (c .before .before .before .before .args .corners .now) ≡ c .before .loop .p = omega arith in
+    rw e (c .before .loop .inv .1)
 
 pub across-spec : {M : Type 1} → statement M
 across-spec =
@@ -65,13 +61,13 @@ across-spec =
     (tie.spec
     Inv-loop
     μ-loop
-    (λ c. (search needs, filled-0 6144 _))
+    (λ c. (search needs, rw (c .before .before .pre .1) (filled-0 6144 _)))
     (λ c. omega arith)
     (λ c. omega (arith, c .before .before .before .before .pre .0 .laid .short))
     (λ c. omega arith)
     (λ c. omega arith)
     last-edge-requires
-    some
+    (λ c κs. search needs)
     fits
     (λ c. omega arith)
     room

@@ -15,14 +15,14 @@ abbrev μ-loop : tie.MeasureT-loop
 μ-loop corners last₀ back₀ p₀ last back p = length corners - p
 
 loop-holds : tie.Need-loop-holds Inv-loop μ-loop
-loop-holds c = (search needs, rw (c .before .pre .1) (chains-0 _))
+loop-holds c = (search needs, rw (c .before .pre .1, c .before .pre .2) (chains-0 _))
 
 read : tie.Need-element-copy-out-back Inv-loop μ-loop
 read c =
     let l = c .before .before .before in
     rw (c .wide .ensures .0) (l .before .before .pre .0 .index (l .loop .p) (omega arith))
 
-room : tie.Need-array-write-back Inv-loop μ-loop
+room : tie.Need-element-write-back Inv-loop μ-loop
 room c = omega (arith, c .before .before .before .before .before .before .pre .0 .short)
 
 loop-again : tie.Need-loop-again Inv-loop μ-loop

@@ -22,16 +22,16 @@ abbrev μ-loop : tie.MeasureT-loop
 
 is-in : (c : lts.After-home-on (home-on-reads.Asked, home-on-reads.Learnt) reads.Pre reads.Post Inv-loop μ-loop)
     → In (c .before .before .before .before .before .args .begins .now) (c .home-on .result) (c .before .before .loop .p)
-is-in c = rw (c .home-on .ensures) (home-on (c .before .before .before .before .before .pre) (c .before .before .loop .inv .1) (omega arith))
+is-in c = rw (c .home-on .ensures) (home-on (c .before .before .before .before .before .pre .0) (c .before .before .loop .inv .1) (omega arith))
 
 loop-again : tie.Need-loop-again Inv-loop μ-loop
 loop-again c =
-    let L = c .before .before .before .before .before .pre in
+    let L = c .before .before .before .before .before .pre .0 in
     (search needs, upto (is-in c), filled-more _ (c .before .before .loop .inv .2) (omega (arith, L .short)) (home-is L (is-in c)))
 
 returns : tie.Need-returns Inv-loop μ-loop
 returns c =
-    let L = c .before .before .before .before .pre in
+    let L = c .before .before .before .before .pre .0 in
     let e : length (c .before .before .before .before .args .corners .now) ≡ c .before .loop .p = omega arith in
     record { laid = L; filled = rw e (c .before .loop .inv .2) }
 
@@ -41,11 +41,11 @@ homes-spec =
     (tie.spec
     Inv-loop
     μ-loop
-    (λ c. (search needs, upto-0 (c .before .before .pre), filled-0 6144 _))
+    (λ c. (search needs, upto-0 (c .before .before .pre .0), rw (c .before .before .pre .1) (filled-0 6144 _)))
     (λ c κs. c .before .loop .inv .1 .facet)
-    (λ c. omega (arith, is-in c .facet, c .before .before .before .before .before .pre .most))
+    (λ c. omega (arith, is-in c .facet, c .before .before .before .before .before .pre .0 .most))
     (λ c. search needs)
-    (λ c. omega (arith, c .before .before .before .before .before .pre .short))
+    (λ c. omega (arith, c .before .before .before .before .before .pre .0 .short))
     (λ c. search needs)
     (λ c. search needs)
     loop-again

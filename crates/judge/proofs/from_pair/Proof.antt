@@ -2,48 +2,48 @@
 use borrow.Author.Needs.{needs}
 use mathlib.Core.Path.{refl, sym, _∙_}
 use Rattle.edges.specs.Index.{all-named}
+use Rattle.edges.specs.Pair.{pair-none}
 use Rattle.judge.proofs.from_pair.Statement.{statement}
 use Rattle.judge.proofs.from_pair.Tie as tie
 
-chains-requires : tie.Need-chains-requires
-chains-requires c κs = (all-named (c .before .before .before .before .before .before .pre .measured .sound), refl)
+build-requires : tie.Need-build-requires
+build-requires c κs =
+    let (five, blank) = c .before .before .before .before .before .before .pre in
+    let s = five .measured .sound in
+    ((s .laid, all-named s), (refl, blank .ends-0, blank .last-0, blank .back-0))
 
 pair-requires : tie.Need-pair-requires
 pair-requires c κs =
-    let k = c .before .before .before .before in
-    let e = k .before .before in
-    let h = e .before .before in
-    let m = h .before .before .before .pre .measured in
-    record { homes = h .homes .ensures; leaving = record { laid = m .sound .laid; named = all-named (m .sound); filled = e .ends .ensures; chains = k .chains .ensures } }
+    let x = c .before .before .before .before .before in
+    (x .before .before .before .before .before .build .ensures, x .across2 .ensures)
 
 returns : tie.Need-returns
-returns c = rw (← (c .before .before .before .before .pair .ensures), c .before .before .pair2 .given .1) (c .refused .ensures)
+returns c =
+    let p = c .before .before .before .before in
+    (rw (← (p .pair .ensures), c .before .before .pair2 .given .1) (c .refused .ensures), p .before .before .before .before .before .before .before .before .before .before .before .build .ensures .leaving)
 
 from-ring-requires : tie.Need-from-ring-requires
 from-ring-requires c κs =
-    let t = c .before .before .before .before in
+    let t = c .before .before .before .before .before in
     let p = t .before .before in
-    let k = p .before .before .before .before .before in
-    let e = k .before .before in
-    let h = e .before .before in
-    let five = h .before .before .before .pre in
-    let m = five .measured in (
-      record { five = five; paired = sym (p .pair .ensures) ∙ t .enum-told .given .1 },
-      record { homes = h .homes .ensures; leaving = record { laid = m .sound .laid; named = all-named (m .sound); filled = e .ends .ensures; chains = k .chains .ensures } },
-    )
+    let x = p .before .before .before .before .before .before in
+    let b = x .before .before .before .before .before in
+    let five = b .before .before .before .before .before .before .before .pre .0 in
+    let none = sym (p .pair .ensures) ∙ t .enum-told .given .1 in
+    (record { five = five; paired = none }, (b .build .ensures, record { paired = pair-none (five .measured .sound .laid) none; filled = x .across2 .ensures }))
 
 returns-2 : tie.Need-returns-2
 returns-2 c =
-    let t = c .before .before .before .before .before in
-    rw (← (t .before .before .pair .ensures), t .enum-told .given .1) (c .from-ring .ensures)
+    let t = c .before .before .before .before .before .before in
+    let p = t .before .before in
+    (rw (← (p .pair .ensures), t .enum-told .given .1) (c .from-ring .ensures), p .before .before .before .before .before .before .before .before .before .before .before .build .ensures .leaving)
 
 pub from-pair-spec : {M : Type 1} → statement M
 from-pair-spec =
     tie.close
     (tie.spec
-    (λ c κs. search needs)
-    (λ c κs. search needs)
-    chains-requires
+    build-requires
+    (λ c κs. (c .before .before .before .before .build .ensures .leaving, refl))
     pair-requires
     (λ c. search needs)
     (λ c κs. search needs)

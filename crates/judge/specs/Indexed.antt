@@ -1,0 +1,24 @@
+-- The tables that the judge fills for whoever reads the edges of an accepted solid. Assumes nothing.
+use mathlib.Core.Path.{_≡_, sym, ap, _∙_}
+use mathlib.Core.List.{List}
+use Prim.Native.Nat.{ℕ, _<_}
+use native.Mathlib.Omega.{arith}
+use lib.ListN.{replicate}
+use Rattle.tables.specs.declared.Answer.{Answer}
+use Rattle.tables.specs.Answer.{refused}
+use Rattle.edges.specs.Index.{Leaving}
+
+-- as they are lent
+pub record Blank (ends last back : List ℕ) : Type 0 where
+  pub ends-0 : ends ≡ replicate 6144 0
+  pub last-0 : last ≡ replicate 1024 0
+  pub back-0 : back ≡ replicate 6144 0
+
+-- as they are given back with an answer
+pub record Indexed (answer : Answer) (corners begins ends last back : List ℕ) : Type 0 where
+  pub leaving : answer .number ≡ 0 → Leaving corners begins ends last back
+
+-- a refusal says nothing of them
+pub not-indexed : {answer : Answer} {number first second : ℕ} {corners begins ends last back : List ℕ} → answer ≡ refused number first second → 0 < number
+    → Indexed answer corners begins ends last back
+not-indexed e l = record { leaving = λ z. absurd (omega (arith, sym z ∙ ap (λ a. a .number) e)) }
