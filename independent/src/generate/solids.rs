@@ -20,10 +20,15 @@ pub enum Extent {
 
 /// A sound solid of some family, reshaped, renumbered and with its facets turned.
 pub fn sound(rng: &mut Rng, extent: Extent) -> Mesh {
-    let mut mesh = match extent {
-        Extent::Small => small(rng),
-        Extent::Medium => medium(rng),
-        Extent::Large => large(rng),
+    let draw = match extent {
+        Extent::Small => small,
+        Extent::Medium => medium,
+        Extent::Large => large,
+    };
+    let mut mesh = loop {
+        if let Some(mesh) = draw(rng) {
+            break mesh;
+        }
     };
     if mesh.points.len() < 500 {
         reshape(&mut mesh, rng);
@@ -32,127 +37,106 @@ pub fn sound(rng: &mut Rng, extent: Extent) -> Mesh {
     mesh
 }
 
-fn small(rng: &mut Rng) -> Mesh {
-    loop {
-        let found = match rng.below(12) {
-            0 => tetrahedron(rng),
-            1 => parallelepiped(rng),
-            2 => {
-                let base = ring_of(rng, 3, 10);
-                let height = rng.between(1, 9);
-                Some(prism(&base, height))
-            }
-            3 => antiprism(rng),
-            4 => {
-                let waist = ring_of(rng, 3, 12);
-                let waist = centred(rng, &waist);
-                Some(bipyramid(&waist, rng.between(1, 20), rng.between(1, 20)))
-            }
-            5 | 6 => {
-                let base = ring_of(rng, 3, 12);
-                let apex = [
-                    rng.between(-40, 40),
-                    rng.between(-40, 40),
-                    rng.between(1, 30),
-                ];
-                Some(pyramid(&base, apex))
-            }
-            7 => {
-                let count = rng.between(6, 14) as usize;
-                let radius = rng.between(3, 60);
-                let points: Vec<_> = (0..count).map(|_| on_sphere(rng, radius)).collect();
-                hull(&points)
-            }
-            8 => {
-                let count = rng.between(5, 12) as usize;
-                let on_bowl = |rng: &mut Rng| {
-                    let (x, y) = (rng.between(-5, 5), rng.between(-5, 5));
-                    [x, y, x * x + y * y]
-                };
-                let points: Vec<_> = (0..count).map(|_| on_bowl(rng)).collect();
-                hull(&points)
-            }
-            9 => {
-                let count = rng.between(5, 16) as usize;
-                let side = rng.between(1, 4);
-                let points: Vec<_> = (0..count)
-                    .map(|_| [0; 3].map(|_: i32| rng.between(-side, side)))
-                    .collect();
-                hull(&points)
-            }
-            10 => {
-                let generators = rng.between(3, 4) as usize;
-                zonotope(rng, generators)
-            }
-            _ => {
-                let base = ring_of(rng, 3, 6);
-                let base = centred(rng, &base);
-                let steps = rng.between(1, 3) as usize;
-                tower(rng, &base, steps)
-            }
-        };
-        if let Some(mesh) = found {
-            if mesh.points.len() <= 24 {
-                return mesh;
-            }
+fn small(rng: &mut Rng) -> Option<Mesh> {
+    let mesh = match rng.below(12) {
+        0 => tetrahedron(rng)?,
+        1 => parallelepiped(rng)?,
+        2 => {
+            let base = ring_of(rng, 3, 10);
+            prism(&base, rng.between(1, 9))
+        }
+        3 => antiprism(rng)?,
+        4 => {
+            let waist = ring_of(rng, 3, 12);
+            let waist = centred(rng, &waist);
+            bipyramid(&waist, rng.between(1, 20), rng.between(1, 20))
+        }
+        5 | 6 => {
+            let base = ring_of(rng, 3, 12);
+            let apex = [
+                rng.between(-40, 40),
+                rng.between(-40, 40),
+                rng.between(1, 30),
+            ];
+            pyramid(&base, apex)
+        }
+        7 => {
+            let count = rng.between(6, 14) as usize;
+            let radius = rng.between(3, 60);
+            let points: Vec<_> = (0..count).map(|_| on_sphere(rng, radius)).collect();
+            hull(&points)?
+        }
+        8 => {
+            let count = rng.between(5, 12) as usize;
+            let on_bowl = |rng: &mut Rng| {
+                let (x, y) = (rng.between(-5, 5), rng.between(-5, 5));
+                [x, y, x * x + y * y]
+            };
+            let points: Vec<_> = (0..count).map(|_| on_bowl(rng)).collect();
+            hull(&points)?
+        }
+        9 => {
+            let count = rng.between(5, 16) as usize;
+            let side = rng.between(1, 4);
+            let points: Vec<_> = (0..count)
+                .map(|_| [0; 3].map(|_: i32| rng.between(-side, side)))
+                .collect();
+            hull(&points)?
+        }
+        10 => zonotope_of(rng, 3, 4)?,
+        _ => {
+            let base = ring_of(rng, 3, 6);
+            tower_of(rng, &base, 1, 3)?
+        }
+    };
+    (mesh.points.len() <= 24).then_some(mesh)
+}
+
+fn medium(rng: &mut Rng) -> Option<Mesh> {
+    match rng.below(5) {
+        0 => zonotope_of(rng, 5, 16),
+        1 => {
+            let base = ring_of(rng, 6, 12);
+            tower_of(rng, &base, 5, 20)
+        }
+        2 => {
+            let count = rng.between(13, 150) as usize;
+            let waist = many(rng, count);
+            let waist = centred(rng, &waist);
+            Some(bipyramid(&waist, rng.between(1, 500), rng.between(1, 500)))
+        }
+        _ => {
+            let count = rng.between(25, 250) as usize;
+            let radius = rng.between(1000, FARTHEST);
+            Some(ball(rng, count, radius))
         }
     }
 }
 
-fn medium(rng: &mut Rng) -> Mesh {
-    loop {
-        let found = match rng.below(5) {
-            0 => {
-                let generators = rng.between(5, 16) as usize;
-                zonotope(rng, generators)
-            }
-            1 => {
-                let base = ring_of(rng, 6, 12);
-                let base = centred(rng, &base);
-                let steps = rng.between(5, 20) as usize;
-                tower(rng, &base, steps)
-            }
-            2 => {
-                let count = rng.between(13, 150) as usize;
-                let waist = many(rng, count);
-                let waist = centred(rng, &waist);
-                Some(bipyramid(&waist, rng.between(1, 500), rng.between(1, 500)))
-            }
-            _ => {
-                let count = rng.between(25, 250) as usize;
-                let radius = rng.between(1000, FARTHEST);
-                Some(ball(rng, count, radius))
-            }
-        };
-        if let Some(mesh) = found {
-            return mesh;
+fn large(rng: &mut Rng) -> Option<Mesh> {
+    match rng.below(5) {
+        0 => zonotope_of(rng, 26, 32),
+        1 => {
+            let base = ring(rng, 12, 12);
+            tower_of(rng, &base, 40, 60)
+        }
+        2 => Some(ball(rng, 1024, FARTHEST)),
+        _ => {
+            let count = rng.between(600, 1024) as usize;
+            Some(ball(rng, count, FARTHEST))
         }
     }
 }
 
-fn large(rng: &mut Rng) -> Mesh {
-    loop {
-        let found = match rng.below(5) {
-            0 => {
-                let generators = rng.between(26, 32) as usize;
-                zonotope(rng, generators)
-            }
-            1 => {
-                let base = ring(rng, 12, 12);
-                let base = centred(rng, &base);
-                let steps = rng.between(40, 60) as usize;
-                tower(rng, &base, steps)
-            }
-            2 => Some(ball(rng, 1024, FARTHEST)),
-            _ => {
-                let count = rng.between(600, 1024) as usize;
-                Some(ball(rng, count, FARTHEST))
-            }
-        };
-        if let Some(mesh) = found {
-            return mesh;
-        }
-    }
+fn zonotope_of(rng: &mut Rng, low: i32, high: i32) -> Option<Mesh> {
+    let generators = rng.between(low, high) as usize;
+    zonotope(rng, generators)
+}
+
+fn tower_of(rng: &mut Rng, base: &[Flat], low: i32, high: i32) -> Option<Mesh> {
+    let base = centred(rng, base);
+    let steps = rng.between(low, high) as usize;
+    tower(rng, &base, steps)
 }
 
 fn ring_of(rng: &mut Rng, low: i32, high: i32) -> Vec<Flat> {
