@@ -1,5 +1,7 @@
 //! The one shape all libraries are called in, that of the C ABI.
 
+use independent::generate::Tables;
+
 /// The three tables lent for reading.
 #[derive(Clone, Copy, Debug)]
 pub struct Lent<'a> {
@@ -8,28 +10,49 @@ pub struct Lent<'a> {
     pub begins: &'a [u16],
 }
 
+impl<'a> From<&'a Tables> for Lent<'a> {
+    fn from(tables: &'a Tables) -> Self {
+        Lent {
+            points: &tables.points,
+            corners: &tables.corners,
+            begins: &tables.begins,
+        }
+    }
+}
+
+/// The three tables lent to the reader for writing.
+#[derive(Debug)]
+pub struct Room<'a> {
+    pub points: &'a mut [i32],
+    pub corners: &'a mut [u16],
+    pub begins: &'a mut [u16],
+}
+
+impl<'a> From<&'a mut Tables> for Room<'a> {
+    fn from(tables: &'a mut Tables) -> Self {
+        Room {
+            points: &mut tables.points,
+            corners: &mut tables.corners,
+            begins: &mut tables.begins,
+        }
+    }
+}
+
+/// Where a walk starts and which way it goes.
+#[derive(Clone, Copy, Debug)]
+pub struct Way {
+    pub start: u32,
+    pub direction: [i32; 3],
+}
+
 /// Each call returns the answer number and writes its places to `out` where `out` is long enough.
 pub trait Library {
     fn name(&self) -> &str;
-    fn judge(&self, tables: Lent, out: &mut [i64]) -> u16;
-    fn walk(
-        &self,
-        tables: Lent,
-        start: u32,
-        direction: [i32; 3],
-        trail: &mut [u16],
-        out: &mut [i64],
-    ) -> u16;
+    fn judge(&self, t: Lent, out: &mut [i64]) -> u16;
+    fn walk(&self, t: Lent, way: Way, trail: &mut [u16], out: &mut [i64]) -> u16;
     fn outline(&self, points: &[i32], out: &mut [i64]) -> u16;
-    fn read_tape(
-        &self,
-        tape: &[u8],
-        points: &mut [i32],
-        corners: &mut [u16],
-        begins: &mut [u16],
-        out: &mut [i64],
-    ) -> u16;
-    fn write_tape(&self, tables: Lent, buffer: &mut [u8], out: &mut [i64]) -> u16;
+    fn read_tape(&self, tape: &[u8], room: &mut Room, out: &mut [i64]) -> u16;
+    fn write_tape(&self, t: Lent, buffer: &mut [u8], out: &mut [i64]) -> u16;
 }
 
 /// Writes the places where they all fit, else nothing.
@@ -53,14 +76,8 @@ impl Library for Independent {
         number as u16
     }
 
-    fn walk(
-        &self,
-        t: Lent,
-        start: u32,
-        direction: [i32; 3],
-        trail: &mut [u16],
-        out: &mut [i64],
-    ) -> u16 {
+    fn walk(&self, t: Lent, way: Way, trail: &mut [u16], out: &mut [i64]) -> u16 {
+        let Way { start, direction } = way;
         let ([number, a, b, c], vertex, height, moves) =
             independent::walk(t.points, t.corners, t.begins, direction, start, trail);
         put(out, &[a, b, c, vertex, height, moves]);
@@ -73,15 +90,8 @@ impl Library for Independent {
         number as u16
     }
 
-    fn read_tape(
-        &self,
-        tape: &[u8],
-        points: &mut [i32],
-        corners: &mut [u16],
-        begins: &mut [u16],
-        out: &mut [i64],
-    ) -> u16 {
-        let (number, places) = independent::read_tape(tape, points, corners, begins);
+    fn read_tape(&self, tape: &[u8], room: &mut Room, out: &mut [i64]) -> u16 {
+        let (number, places) = independent::read_tape(tape, room.points, room.corners, room.begins);
         put(out, &places);
         number as u16
     }

@@ -1,15 +1,18 @@
-//! One call, with everything lent kept under watch.
+//! One call, with everything lent kept under watch, or one run of a program.
 
-use crate::library::{Lent, Library};
+use crate::library::{Lent, Library, Room, Way};
+use crate::Product;
 use independent::generate::{pattern, Case, Tables};
 use std::hint::black_box;
+use std::io;
 
-/// What a call answered and what the lent entries held afterwards.
+/// What a call answered and what the lent entries held afterwards, or what a program printed.
 #[derive(Debug, PartialEq, Eq)]
 pub struct Outcome {
     pub number: u16,
     pub places: Vec<i64>,
     pub lent: Vec<i64>,
+    pub printed: Vec<u8>,
     /// A broken promise that needs no second library to be seen.
     pub fault: Option<String>,
 }
@@ -51,20 +54,16 @@ impl<T: Copy + PartialEq> Guarded<T> {
 }
 
 fn lend(tables: &Tables) -> Lent<'_> {
-    let tables = black_box(tables);
-    Lent {
-        points: &tables.points,
-        corners: &tables.corners,
-        begins: &tables.begins,
-    }
+    black_box(tables).into()
 }
 
 fn places(count: usize) -> Guarded<i64> {
     Guarded::new((0..count).map(|_| UNWRITTEN), UNWRITTEN)
 }
 
-/// Calls the library with the case.
-pub fn run(library: &dyn Library, case: &Case) -> Outcome {
+/// Calls the library or runs the program with the case.
+pub fn run(product: Product, case: &Case) -> Outcome {
+    let Product { library, programs } = product;
     let copy = case.clone();
     let mut outcome = match case {
         Case::Judge(tables) => judge(library, tables),
@@ -73,10 +72,18 @@ pub fn run(library: &dyn Library, case: &Case) -> Outcome {
             start,
             direction,
             trail,
-        } => walk(library, tables, *start, *direction, trail),
+        } => {
+            let way = Way {
+                start: *start,
+                direction: *direction,
+            };
+            walk(library, tables, way, trail)
+        }
         Case::Outline(points) => outline(library, points),
         Case::Read { tape, rooms, salt } => read(library, tape, *rooms, *salt),
         Case::Write { tables, room, salt } => write(library, tables, *room, *salt),
+        Case::JudgingProgram(input) => printed(programs.judging(input)),
+        Case::WalkingProgram { tape, input } => printed(programs.walking(tape.as_deref(), input)),
     };
     if black_box(case) != &copy {
         outcome.fault = Some("what was lent for reading has changed".into());
@@ -97,6 +104,7 @@ fn finish(number: u16, out: &Guarded<i64>, kept: bool, short: Option<&str>) -> O
         number,
         places: out.now().to_vec(),
         lent: Vec::new(),
+        printed: Vec::new(),
         fault: fault.map(str::to_string),
     }
 }
@@ -125,20 +133,14 @@ fn judge(library: &dyn Library, tables: &Tables) -> Outcome {
     finish(number, &out, true, short)
 }
 
-fn walk(
-    library: &dyn Library,
-    tables: &Tables,
-    start: u32,
-    direction: [i32; 3],
-    trail: &[u16],
-) -> Outcome {
+fn walk(library: &dyn Library, tables: &Tables, way: Way, trail: &[u16]) -> Outcome {
     let mut out = places(6);
     let mut lent = Guarded::new(trail.iter().copied(), 0xa5a5);
-    let number = library.walk(lend(tables), start, direction, lent.lend(), out.lend());
+    let number = library.walk(lend(tables), way, lent.lend(), out.lend());
     let short = if tables.corners.len() < 200 {
         let mut again = trail.to_vec();
         short_out(number, 6, |out| {
-            library.walk(lend(tables), start, direction, &mut again, out)
+            library.walk(lend(tables), way, &mut again, out)
         })
     } else {
         None
@@ -166,36 +168,30 @@ fn read(library: &dyn Library, tape: &[u8], rooms: [usize; 3], salt: usize) -> O
     let mut points = Guarded::new((0..rooms[0]).map(|i| i32::from(held(i)) - 99), i32::MIN);
     let mut corners = Guarded::new((0..rooms[1]).map(|i| u16::from(held(i))), 0xa5a5);
     let mut begins = Guarded::new((0..rooms[2]).map(|i| u16::from(held(i))), 0xa5a5);
-    let number = library.read_tape(
-        black_box(tape),
-        points.lend(),
-        corners.lend(),
-        begins.lend(),
-        out.lend(),
-    );
+    let mut room = Room {
+        points: points.lend(),
+        corners: corners.lend(),
+        begins: begins.lend(),
+    };
+    let number = library.read_tape(black_box(tape), &mut room, out.lend());
     let need = match (number, out.now()) {
         (0, &[v, f, c]) => [3 * v, c, f + 1].map(|n| n.clamp(0, 1 << 16) as usize),
         _ => [0; 3],
     };
     let kept = points.kept_past(need[0]) && corners.kept_past(need[1]) && begins.kept_past(need[2]);
-    let mut again = (
-        points.now().to_vec(),
-        corners.now().to_vec(),
-        begins.now().to_vec(),
-    );
+    let mut again = Tables {
+        points: points.now().to_vec(),
+        corners: corners.now().to_vec(),
+        begins: begins.now().to_vec(),
+    };
     let short = short_out(number, 3, |out| {
-        library.read_tape(tape, &mut again.0, &mut again.1, &mut again.2, out)
+        library.read_tape(tape, &mut Room::from(&mut again), out)
     });
     let mut outcome = finish(number, &out, kept, short);
-    outcome
-        .lent
-        .extend(points.now().iter().map(|&n| i64::from(n)));
-    outcome
-        .lent
-        .extend(corners.now().iter().map(|&n| i64::from(n)));
-    outcome
-        .lent
-        .extend(begins.now().iter().map(|&n| i64::from(n)));
+    let lent = &mut outcome.lent;
+    lent.extend(points.now().iter().map(|&n| i64::from(n)));
+    lent.extend(corners.now().iter().map(|&n| i64::from(n)));
+    lent.extend(begins.now().iter().map(|&n| i64::from(n)));
     outcome
 }
 
@@ -216,4 +212,21 @@ fn write(library: &dyn Library, tables: &Tables, room: usize, salt: usize) -> Ou
     let mut outcome = finish(number, &out, kept, short);
     outcome.lent = buffer.now().iter().map(|&n| n.into()).collect();
     outcome
+}
+
+/// The number is that of the line, or one no line may have.
+fn printed(bytes: io::Result<Vec<u8>>) -> Outcome {
+    let (printed, fault) = match bytes {
+        Ok(bytes) => (bytes, None),
+        Err(error) => (Vec::new(), Some(error.to_string())),
+    };
+    let text = String::from_utf8_lossy(&printed);
+    let number = text.split(' ').next().and_then(|word| word.parse().ok());
+    Outcome {
+        number: number.unwrap_or(u16::MAX),
+        places: Vec::new(),
+        lent: Vec::new(),
+        printed,
+        fault,
+    }
 }

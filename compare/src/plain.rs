@@ -1,6 +1,9 @@
 //! The same rules as a straightforward Rust library would hold them, for timing.
 
-use crate::library::{put, Lent, Library};
+use crate::library::{put, Lent, Library, Room, Way};
+use crate::programs::Programs;
+use independent::generate::{Input, Tables};
+use std::io;
 
 /// A refusal's number and places.
 type Refusal = (u16, [i64; 3]);
@@ -300,7 +303,8 @@ impl<'a> Solid<'a> {
     }
 }
 
-fn walk(t: Lent, start: u32, direction: [i32; 3], trail: &mut [u16]) -> Result<[i64; 3], Refusal> {
+fn walk(t: Lent, way: Way, trail: &mut [u16]) -> Result<[i64; 3], Refusal> {
+    let Way { start, direction } = way;
     let solid = Solid::new(t)?;
     solid.judge()?;
     if start as usize >= solid.points.len() {
@@ -413,12 +417,12 @@ fn scan(tape: &[u8]) -> Result<[usize; 3], (u16, usize)> {
     }
 }
 
-fn read_tape(
-    tape: &[u8],
-    points: &mut [i32],
-    corners: &mut [u16],
-    begins: &mut [u16],
-) -> Result<[usize; 3], (u16, usize)> {
+fn read_tape(tape: &[u8], room: &mut Room) -> Result<[usize; 3], (u16, usize)> {
+    let Room {
+        points,
+        corners,
+        begins,
+    } = room;
     if points.len() < 3072 || corners.len() < 6144 || begins.len() < 2049 {
         return Err((16, 0));
     }
@@ -475,6 +479,48 @@ fn write_tape(t: Lent, buffer: &mut [u8]) -> Result<usize, Refusal> {
     Ok(length)
 }
 
+/// The tables on a tape, of which at most 21,510 bytes are read.
+fn tables_on(tape: &[u8]) -> Result<Tables, (u16, usize)> {
+    let mut tables = Tables {
+        points: vec![0; 3072],
+        corners: vec![0; 6144],
+        begins: vec![0; 2049],
+    };
+    let tape = &tape[..tape.len().min(21_510)];
+    let [vertices, facets, corners] = read_tape(tape, &mut Room::from(&mut tables))?;
+    tables.points.truncate(3 * vertices);
+    tables.corners.truncate(corners);
+    tables.begins.truncate(facets + 1);
+    Ok(tables)
+}
+
+fn whole_number<T: std::str::FromStr>(word: &[u8]) -> Option<T> {
+    let text = std::str::from_utf8(word).ok()?;
+    if text.starts_with('+') {
+        return None;
+    }
+    text.parse().ok()
+}
+
+fn walk_of_words(tape: &[u8], input: &[u8]) -> Result<[i64; 3], u16> {
+    let tables = tables_on(tape).map_err(|(number, _)| number)?;
+    let mut words = input[..input.len().min(256)]
+        .split(|byte| b" \n".contains(byte))
+        .filter(|word| !word.is_empty());
+    // What is no number becomes one past the limits, which the walk refuses in its turn.
+    let start = words.next().and_then(whole_number::<i64>);
+    let start = start.and_then(|n| u32::try_from(n).ok());
+    let mut direction = [(); 3].map(|()| words.next().and_then(whole_number).unwrap_or(i32::MAX));
+    if words.next().is_some() || input.len() > 256 {
+        direction[0] = i32::MAX;
+    }
+    let way = Way {
+        start: start.unwrap_or(u32::MAX),
+        direction,
+    };
+    walk(Lent::from(&tables), way, &mut [0; 1024]).map_err(|(number, _)| number)
+}
+
 /// The plain library in the common shape.
 pub struct Plain;
 
@@ -495,15 +541,8 @@ impl Library for Plain {
         number
     }
 
-    fn walk(
-        &self,
-        t: Lent,
-        start: u32,
-        direction: [i32; 3],
-        trail: &mut [u16],
-        out: &mut [i64],
-    ) -> u16 {
-        let (number, record) = match walk(t, start, direction, trail) {
+    fn walk(&self, t: Lent, way: Way, trail: &mut [u16], out: &mut [i64]) -> u16 {
+        let (number, record) = match walk(t, way, trail) {
             Ok([vertex, height, moves]) => (0, [0, 0, 0, vertex, height, moves]),
             Err((number, [a, b, c])) => (number, [a, b, c, 0, 0, 0]),
         };
@@ -517,15 +556,8 @@ impl Library for Plain {
         number
     }
 
-    fn read_tape(
-        &self,
-        tape: &[u8],
-        points: &mut [i32],
-        corners: &mut [u16],
-        begins: &mut [u16],
-        out: &mut [i64],
-    ) -> u16 {
-        let (number, places) = match read_tape(tape, points, corners, begins) {
+    fn read_tape(&self, tape: &[u8], room: &mut Room, out: &mut [i64]) -> u16 {
+        let (number, places) = match read_tape(tape, room) {
             Ok(sizes) => (0, sizes),
             Err((number, offset)) => (number, [offset, 0, 0]),
         };
@@ -540,5 +572,28 @@ impl Library for Plain {
         };
         put(out, &places);
         number
+    }
+}
+
+impl Programs for Plain {
+    fn judging(&self, input: &Input) -> io::Result<Vec<u8>> {
+        let mut out = [0; 3];
+        let number = match tables_on(&input.bytes) {
+            Ok(tables) => self.judge(Lent::from(&tables), &mut out),
+            Err((number, offset)) => {
+                out[0] = offset as i64;
+                number
+            }
+        };
+        let [a, b, c] = out;
+        Ok(format!("{number} {a} {b} {c}\n").into())
+    }
+
+    fn walking(&self, tape: Option<&[u8]>, input: &Input) -> io::Result<Vec<u8>> {
+        let line = match walk_of_words(tape.unwrap_or(&[]), &input.bytes) {
+            Ok([vertex, height, moves]) => format!("0 {vertex} {height} {moves}\n"),
+            Err(number) => format!("{number} 0 0 0\n"),
+        };
+        Ok(line.into())
     }
 }

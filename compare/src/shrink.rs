@@ -1,12 +1,11 @@
 //! Makes a case that shows a difference as small as a bounded greedy search can.
 
-use crate::confront;
-use crate::library::Library;
-use independent::generate::{hull_of, Case, Mesh, Tables};
+use crate::{confront, Product};
+use independent::generate::{hull_of, tapes, Case, Input, Mesh, Tables};
 use std::ops::Range;
 
 /// Tries at most `bound` smaller cases, keeping each that still shows a difference.
-pub fn shrink(ours: &dyn Library, theirs: &dyn Library, case: &Case, bound: usize) -> Case {
+pub fn shrink(ours: Product, theirs: Product, case: &Case, bound: usize) -> Case {
     let mut search = Search {
         ours,
         theirs,
@@ -19,6 +18,7 @@ pub fn shrink(ours: &dyn Library, theirs: &dyn Library, case: &Case, bound: usiz
             search.cut(cut);
         }
         search.simplify_numbers();
+        search.simplify_words();
         if search.left == 0 || search.best == before {
             return search.best;
         }
@@ -38,13 +38,17 @@ pub fn weight(case: &Case) -> usize {
         Case::Write {
             tables: t, room, ..
         } => tables(t) + room,
+        Case::JudgingProgram(input) => input.bytes.len(),
+        Case::WalkingProgram { tape, input } => {
+            tape.as_ref().map_or(0, Vec::len) + input.bytes.len()
+        }
     }
 }
 
 /// Takes a range of the case's parts away, or says that it has not that many.
 type Cut = fn(&Case, Range<usize>) -> Option<Case>;
 
-const CUTS: [Cut; 13] = [
+const CUTS: [Cut; 15] = [
     hull_of_part,
     hull_without,
     without_facets,
@@ -56,19 +60,21 @@ const CUTS: [Cut; 13] = [
     without_outline_points,
     without_records,
     without_bytes,
+    without_words,
+    without_late,
     without_room,
     without_start,
 ];
 
 struct Search<'a> {
-    ours: &'a dyn Library,
-    theirs: &'a dyn Library,
+    ours: Product<'a>,
+    theirs: Product<'a>,
     best: Case,
     left: usize,
 }
 
 impl Search<'_> {
-    /// Keeps the candidate if the libraries still differ on it.
+    /// Keeps the candidate if the products still differ on it.
     fn keep(&mut self, candidate: Case) -> bool {
         if self.left == 0 || candidate == self.best {
             return false;
@@ -99,26 +105,50 @@ impl Search<'_> {
     }
 
     fn simplify_numbers(&mut self) {
+        let simpler: [fn(i32) -> i32; 3] = [|_| 0, |n| n / 2, |n| n - n.signum()];
         let mut at = 0;
-        while let Some(value) = number_at(&mut self.best.clone(), at).map(|n| *n) {
-            for simpler in [0, value / 2, value - value.signum()] {
-                let mut candidate = self.best.clone();
-                if let Some(number) = number_at(&mut candidate, at) {
-                    *number = simpler;
-                }
-                if simpler != value && self.keep(candidate) {
+        while with_number(&self.best, at, |n| n).is_some() {
+            for change in simpler {
+                let candidate = with_number(&self.best, at, change);
+                if candidate.is_some_and(|candidate| self.keep(candidate)) {
                     break;
                 }
             }
             at += 1;
         }
     }
+
+    /// Makes the digits of the words zeros and their other bytes blanks.
+    fn simplify_words(&mut self) {
+        for at in 0.. {
+            let mut candidate = self.best.clone();
+            let Some(byte) = words_of(&mut candidate).and_then(|words| words.get_mut(at)) else {
+                return;
+            };
+            *byte = if byte.is_ascii_digit() { b'0' } else { b' ' };
+            self.keep(candidate);
+        }
+    }
+}
+
+/// The case with one of its coordinates or direction parts changed.
+fn with_number(case: &Case, at: usize, change: impl FnOnce(i32) -> i32) -> Option<Case> {
+    let mut changed = case.clone();
+    if tape_of(&mut changed).is_some() {
+        return on_mesh(case, |mesh| {
+            let number = mesh.points.as_flattened_mut().get_mut(at)?;
+            *number = change(*number);
+            Some(())
+        });
+    }
+    let number = number_at(&mut changed, at)?;
+    *number = change(*number);
+    Some(changed)
 }
 
 /// The coordinates and direction parts of a case, one after the other.
 fn number_at(case: &mut Case, at: usize) -> Option<&mut i32> {
     match case {
-        Case::Judge(t) | Case::Write { tables: t, .. } => t.points.get_mut(at),
         Case::Outline(points) => points.get_mut(at),
         Case::Walk {
             tables, direction, ..
@@ -126,32 +156,47 @@ fn number_at(case: &mut Case, at: usize) -> Option<&mut i32> {
             None => direction.get_mut(at),
             Some(at) => tables.points.get_mut(at),
         },
-        Case::Read { .. } => None,
+        _ => tables_of(case)?.points.get_mut(at),
     }
 }
 
-fn tables_of(case: &Case) -> Option<&Tables> {
+fn tables_of(case: &mut Case) -> Option<&mut Tables> {
     match case {
         Case::Judge(t) | Case::Walk { tables: t, .. } | Case::Write { tables: t, .. } => Some(t),
         _ => None,
     }
 }
 
-fn with_tables(case: &Case, tables: Tables) -> Case {
-    let mut changed = case.clone();
-    match &mut changed {
-        Case::Judge(t) | Case::Walk { tables: t, .. } | Case::Write { tables: t, .. } => {
-            *t = tables
-        }
-        _ => {}
+fn tape_of(case: &mut Case) -> Option<&mut Vec<u8>> {
+    match case {
+        Case::Read { tape, .. } => Some(tape),
+        Case::JudgingProgram(input) => Some(&mut input.bytes),
+        Case::WalkingProgram { tape, .. } => tape.as_mut(),
+        _ => None,
     }
-    changed
 }
 
+fn words_of(case: &mut Case) -> Option<&mut Vec<u8>> {
+    match case {
+        Case::WalkingProgram { input, .. } => Some(&mut input.bytes),
+        _ => None,
+    }
+}
+
+/// Changes the solid of the case, in its tables or on its tape.
 fn on_mesh(case: &Case, change: impl FnOnce(&mut Mesh) -> Option<()>) -> Option<Case> {
-    let mut mesh = Mesh::from_tables(tables_of(case)?)?;
-    change(&mut mesh)?;
-    Some(with_tables(case, mesh.tables()))
+    let mut changed = case.clone();
+    if let Some(tables) = tables_of(&mut changed) {
+        let mut mesh = Mesh::from_tables(tables)?;
+        change(&mut mesh)?;
+        *tables = mesh.tables();
+    } else {
+        let tape = tape_of(&mut changed)?;
+        let mut mesh = tapes::to_mesh(tape)?;
+        change(&mut mesh)?;
+        *tape = tapes::of_mesh(&mesh);
+    }
+    Some(changed)
 }
 
 /// The part of the range that a list of this length has.
@@ -257,7 +302,8 @@ fn without_corners(case: &Case, range: Range<usize>) -> Option<Case> {
 
 /// Entries of the three tables as one list, whatever they mean.
 fn without_raw_entries(case: &Case, range: Range<usize>) -> Option<Case> {
-    let mut tables = tables_of(case)?.clone();
+    let mut changed = case.clone();
+    let tables = tables_of(&mut changed)?;
     let (p, c) = (tables.points.len(), tables.corners.len());
     let range = within(range, p + c + tables.begins.len())?;
     let part = |from: usize, length: usize| {
@@ -269,19 +315,7 @@ fn without_raw_entries(case: &Case, range: Range<usize>) -> Option<Case> {
     tables.points.drain(part(0, p));
     tables.corners.drain(part(p, c));
     tables.begins.drain(begins);
-    Some(with_tables(case, tables))
-}
-
-fn without_trail(case: &Case, range: Range<usize>) -> Option<Case> {
-    let mut changed = case.clone();
-    match &mut changed {
-        Case::Walk { trail, .. } => {
-            let range = within(range, trail.len())?;
-            trail.drain(range);
-            Some(changed)
-        }
-        _ => None,
-    }
+    Some(changed)
 }
 
 fn without_outline_points(case: &Case, range: Range<usize>) -> Option<Case> {
@@ -299,9 +333,7 @@ fn without_outline_points(case: &Case, range: Range<usize>) -> Option<Case> {
 /// Takes whole records away and sets the end record's counts right again.
 fn without_records(case: &Case, range: Range<usize>) -> Option<Case> {
     let mut changed = case.clone();
-    let Case::Read { tape, .. } = &mut changed else {
-        return None;
-    };
+    let tape = tape_of(&mut changed)?;
     let mut records = Vec::new();
     let mut rest = tape.as_slice();
     while let Some(&kind) = rest.first() {
@@ -330,27 +362,62 @@ fn without_records(case: &Case, range: Range<usize>) -> Option<Case> {
     Some(changed)
 }
 
-fn without_bytes(case: &Case, range: Range<usize>) -> Option<Case> {
+/// Cuts the range out of a list of the case.
+fn drained<T>(
+    case: &Case,
+    range: Range<usize>,
+    list: fn(&mut Case) -> Option<&mut Vec<T>>,
+) -> Option<Case> {
     let mut changed = case.clone();
-    match &mut changed {
-        Case::Read { tape, .. } => {
-            let range = within(range, tape.len())?;
-            tape.drain(range);
-            Some(changed)
-        }
+    let list = list(&mut changed)?;
+    let range = within(range, list.len())?;
+    list.drain(range);
+    Some(changed)
+}
+
+fn without_trail(case: &Case, range: Range<usize>) -> Option<Case> {
+    drained(case, range, |case| match case {
+        Case::Walk { trail, .. } => Some(trail),
         _ => None,
-    }
+    })
+}
+
+fn without_bytes(case: &Case, range: Range<usize>) -> Option<Case> {
+    drained(case, range, tape_of)
+}
+
+fn without_words(case: &Case, range: Range<usize>) -> Option<Case> {
+    drained(case, range, words_of)
+}
+
+/// Lessens a count of the case by the range's length.
+fn lessened(
+    case: &Case,
+    range: Range<usize>,
+    count: fn(&mut Case) -> Option<&mut usize>,
+) -> Option<Case> {
+    let mut changed = case.clone();
+    let count = count(&mut changed)?;
+    *count -= within(range, *count)?.len();
+    Some(changed)
+}
+
+fn without_late(case: &Case, range: Range<usize>) -> Option<Case> {
+    lessened(case, range, |case| match case {
+        Case::JudgingProgram(Input { late, .. })
+        | Case::WalkingProgram {
+            input: Input { late, .. },
+            ..
+        } => Some(late),
+        _ => None,
+    })
 }
 
 fn without_room(case: &Case, range: Range<usize>) -> Option<Case> {
-    let mut changed = case.clone();
-    match &mut changed {
-        Case::Write { room, .. } => {
-            *room -= within(range, *room)?.len();
-            Some(changed)
-        }
+    lessened(case, range, |case| match case {
+        Case::Write { room, .. } => Some(room),
         _ => None,
-    }
+    })
 }
 
 fn without_start(case: &Case, range: Range<usize>) -> Option<Case> {

@@ -1,7 +1,10 @@
-//! Libraries wrong in one point each, to see that the comparison finds and shrinks such errors.
+//! Libraries and programs wrong in one point each, to see that the comparison finds such errors.
 
-use crate::library::{put, Independent, Lent, Library};
-use independent::generate::{Mesh, Tables};
+use crate::library::{put, Independent, Lent, Library, Room, Way};
+use crate::programs::Programs;
+use independent::generate::{Input, Mesh, Tables};
+use independent::{judging_line, walking_line, LONGEST_INPUT, LONGEST_WORDS};
+use std::io;
 
 macro_rules! wrongs {
     ($($variant:ident $name:literal,)*) => {
@@ -43,6 +46,13 @@ wrongs! {
     ReadsNothing "reads-nothing",
     WriterJudges "writer-judges",
     WritesBeyond "writes-beyond",
+    ReadsOnce "reads-once",
+    TailUnread "tail-unread",
+    NeedsAFile "needs-a-file",
+    TabsPartWords "tabs-part-words",
+    DirectionFirst "direction-first",
+    NumbersWrap "numbers-wrap",
+    RestForgotten "rest-forgotten",
 }
 
 impl Library for Wrong {
@@ -75,14 +85,8 @@ impl Library for Wrong {
         number
     }
 
-    fn walk(
-        &self,
-        t: Lent,
-        start: u32,
-        direction: [i32; 3],
-        trail: &mut [u16],
-        out: &mut [i64],
-    ) -> u16 {
+    fn walk(&self, t: Lent, way: Way, trail: &mut [u16], out: &mut [i64]) -> u16 {
+        let Way { start, direction } = way;
         let height = |v: u16| -> i64 {
             let point = &t.points[3 * usize::from(v)..][..3];
             point
@@ -103,15 +107,11 @@ impl Library for Wrong {
                 };
                 let mut whole = [0; 6];
                 let before = trail.to_vec();
-                let lent = Lent {
-                    points: &turned.points,
-                    corners: &turned.corners,
-                    begins: &turned.begins,
-                };
-                let number = Independent.walk(lent, start, direction, trail, &mut whole);
+                let turned_way = Way { start, direction };
+                let number = Independent.walk((&turned).into(), turned_way, trail, &mut whole);
                 if number != 0 {
                     trail.copy_from_slice(&before);
-                    return Independent.walk(t, start, direction, trail, out);
+                    return Independent.walk(t, way, trail, out);
                 }
                 let back = |v: u16| (last - 1) as u16 - v;
                 let stood = whole[5] as usize + 1;
@@ -121,7 +121,7 @@ impl Library for Wrong {
                 0
             }
             _ => {
-                let number = Independent.walk(t, start, direction, trail, out);
+                let number = Independent.walk(t, way, trail, out);
                 if *self == Wrong::TrailOnRefusal && number == 14 {
                     trail.iter_mut().take(1).for_each(|v| *v = start as u16);
                 }
@@ -169,25 +169,21 @@ impl Library for Wrong {
         }
     }
 
-    fn read_tape(
-        &self,
-        tape: &[u8],
-        points: &mut [i32],
-        corners: &mut [u16],
-        begins: &mut [u16],
-        out: &mut [i64],
-    ) -> u16 {
+    fn read_tape(&self, tape: &[u8], room: &mut Room, out: &mut [i64]) -> u16 {
         if *self == Wrong::ReadsNothing {
-            let (mut p, mut c, mut b) = (points.to_vec(), corners.to_vec(), begins.to_vec());
-            return Independent.read_tape(tape, &mut p, &mut c, &mut b, out);
+            let mut elsewhere = Tables {
+                points: room.points.to_vec(),
+                corners: room.corners.to_vec(),
+                begins: room.begins.to_vec(),
+            };
+            return Independent.read_tape(tape, &mut Room::from(&mut elsewhere), out);
         }
-        let number = Independent.read_tape(tape, points, corners, begins, out);
+        let number = Independent.read_tape(tape, room, out);
         if *self == Wrong::ReadsEarly && number == 21 {
-            begins[0] = 0;
-            begins[1] = 3;
+            room.begins[..2].copy_from_slice(&[0, 3]);
         }
         if *self == Wrong::ReadsBeyond && number == 0 {
-            begins[2048] = 0;
+            room.begins[2048] = 0;
         }
         number
     }
@@ -207,6 +203,75 @@ impl Library for Wrong {
         }
         number
     }
+}
+
+impl Programs for Wrong {
+    fn judging(&self, input: &Input) -> io::Result<Vec<u8>> {
+        let bytes = &input.bytes;
+        let line = match self {
+            Wrong::ReadsOnce => judging_line(input.parts().0),
+            Wrong::TailUnread => judging_line(&bytes[..bytes.len().min(LONGEST_INPUT - 1)]),
+            _ => judging_line(bytes),
+        };
+        Ok(line.into())
+    }
+
+    fn walking(&self, tape: Option<&[u8]>, input: &Input) -> io::Result<Vec<u8>> {
+        if *self == Wrong::NeedsAFile && tape.is_none() {
+            return Ok(Vec::new());
+        }
+        let tape = tape.unwrap_or_default();
+        let bytes = match self {
+            Wrong::ReadsOnce => input.parts().0,
+            _ => &input.bytes,
+        };
+        let right = walking_line(tape, bytes);
+        let line = match self {
+            Wrong::TabsPartWords => {
+                let blank = |&byte| if byte == b'\t' { b' ' } else { byte };
+                walking_line(tape, &bytes.iter().map(blank).collect::<Vec<u8>>())
+            }
+            Wrong::DirectionFirst if right.starts_with("13 ") => {
+                let mut words = words(bytes);
+                words.splice(..words.len().min(1), [&b"0"[..]]);
+                let line = walking_line(tape, &words.join(&b' '));
+                if line.starts_with("14 ") {
+                    line
+                } else {
+                    right
+                }
+            }
+            Wrong::NumbersWrap if bytes.len() <= LONGEST_WORDS => {
+                let words: Vec<_> = words(bytes).into_iter().map(wrapped).collect();
+                walking_line(tape, &words.join(&b' '))
+            }
+            Wrong::RestForgotten => walking_line(tape, &bytes[..bytes.len().min(LONGEST_WORDS)]),
+            _ => right,
+        };
+        Ok(line.into())
+    }
+}
+
+fn words(input: &[u8]) -> Vec<&[u8]> {
+    let words = input.split(|byte| b" \n".contains(byte));
+    words.filter(|word| !word.is_empty()).collect()
+}
+
+/// A number with what is above 64 bits dropped; any other word as it is.
+fn wrapped(word: &[u8]) -> Vec<u8> {
+    let digits = word.strip_prefix(b"-").unwrap_or(word);
+    if digits.is_empty() || !digits.iter().all(u8::is_ascii_digit) {
+        return word.to_vec();
+    }
+    let value = digits.iter().fold(0_i64, |value, digit| {
+        value.wrapping_mul(10).wrapping_add((digit - b'0').into())
+    });
+    let value = if digits.len() < word.len() {
+        value.wrapping_neg()
+    } else {
+        value
+    };
+    value.to_string().into()
 }
 
 fn backward(t: Lent) -> Tables {
@@ -229,29 +294,33 @@ fn backward(t: Lent) -> Tables {
 #[cfg(test)]
 mod tests {
     use super::*;
+    use crate::plain::Plain;
     use crate::shrink::{shrink, weight};
-    use crate::{case_of, confront};
+    use crate::{case_of, confront, Product};
+
+    const RIGHT: Product = Product::INDEPENDENT;
 
     #[test]
-    fn every_wrong_library_is_found_and_shrunk() {
-        for &wrong in Wrong::ALL {
+    fn every_wrong_product_is_found_and_shrunk() {
+        for wrong in Wrong::ALL {
+            let other = Product::of(wrong);
             let found = (0..20_000)
                 .map(|i| case_of(5, i))
-                .find(|case| confront(&Independent, &wrong, case).is_err());
+                .find(|case| confront(RIGHT, other, case).is_err());
             let case = found.unwrap_or_else(|| panic!("{} is not found", wrong.label()));
-            let least = shrink(&Independent, &wrong, &case, 3000);
-            assert!(confront(&Independent, &wrong, &least).is_err());
+            let least = shrink(RIGHT, other, &case, 3000);
+            assert!(confront(RIGHT, other, &least).is_err());
             assert!(weight(&least) <= weight(&case));
         }
     }
 
     #[test]
-    fn right_libraries_agree() {
+    fn right_products_agree() {
         for i in 0..300 {
             let case = case_of(6, i);
-            assert!(confront(&Independent, &Independent, &case).is_ok());
+            assert!(confront(RIGHT, RIGHT, &case).is_ok());
             assert!(
-                confront(&Independent, &crate::plain::Plain, &case).is_ok(),
+                confront(RIGHT, Product::of(&Plain), &case).is_ok(),
                 "{case:?}"
             );
         }

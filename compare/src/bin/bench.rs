@@ -1,6 +1,6 @@
 //! Times the proved library against the plain one on the same inputs.
 
-use compare::library::{Lent, Library};
+use compare::library::{Lent, Library, Room, Way};
 use compare::plain::Plain;
 use independent::generate::{ball_of, polygon, Rng, Tables};
 use independent::{BEGIN_ROOM, CORNER_ROOM, POINT_ROOM};
@@ -70,11 +70,7 @@ fn other(stand_in: bool) -> Result<Box<dyn Library>, String> {
 const TASKS: [&str; 5] = ["judge", "walk", "read", "write", "outline"];
 
 fn solid_rows(libraries: &[&dyn Library; 2], vertices: usize, t: &Tables, rows: &mut Vec<Row>) {
-    let lent = Lent {
-        points: &t.points,
-        corners: &t.corners,
-        begins: &t.begins,
-    };
+    let lent = Lent::from(t);
     rows.push(measure("judge", vertices, libraries, |library| {
         let mut out = [0; 3];
         let number = library.judge(black_box(lent), &mut out);
@@ -84,10 +80,11 @@ fn solid_rows(libraries: &[&dyn Library; 2], vertices: usize, t: &Tables, rows: 
     let direction = [3, -5, 32767];
     let low = |v: &usize| t.points[3 * v + 2];
     let start = (0..vertices).min_by_key(low).unwrap_or(0) as u32;
+    let way = Way { start, direction };
     let mut trail = vec![0; vertices];
     rows.push(measure("walk", vertices, libraries, |library| {
         let mut out = [0; 6];
-        let number = library.walk(black_box(lent), start, direction, &mut trail, &mut out);
+        let number = library.walk(black_box(lent), way, &mut trail, &mut out);
         (number, out[3])
     }));
 
@@ -101,13 +98,14 @@ fn solid_rows(libraries: &[&dyn Library; 2], vertices: usize, t: &Tables, rows: 
     let mut out = [0; 3];
     Plain.write_tape(lent, &mut tape, &mut out);
     tape.truncate(out[0] as usize);
-    let mut points = vec![0; POINT_ROOM];
-    let mut corners = vec![0; CORNER_ROOM];
-    let mut begins = vec![0; BEGIN_ROOM];
+    let mut room = Room {
+        points: &mut [0; POINT_ROOM],
+        corners: &mut [0; CORNER_ROOM],
+        begins: &mut [0; BEGIN_ROOM],
+    };
     rows.push(measure("read", vertices, libraries, |library| {
         let mut out = [0; 3];
-        let tape = black_box(&tape);
-        let number = library.read_tape(tape, &mut points, &mut corners, &mut begins, &mut out);
+        let number = library.read_tape(black_box(&tape), &mut room, &mut out);
         (number, out[1])
     }));
 }

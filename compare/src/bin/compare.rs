@@ -1,21 +1,25 @@
-//! Compares the literal judge with the proved library on fresh random cases.
+//! Compares the literal judge with the proved library and its two programs on fresh random cases.
 
 use compare::library::{Independent, Library};
 use compare::outcome::Outcome;
 use compare::plain::Plain;
+use compare::programs::{Binaries, Programs};
 use compare::shrink::{shrink, weight};
 use compare::wrong::Wrong;
-use compare::{case_of, confront, Difference};
-use independent::generate::{pattern, Case, Tables};
+use compare::{case_of, confront, Difference, Product};
+use independent::generate::{pattern, Case, Input, Tables};
 use independent::number::COUNT_OF_NUMBERS;
+use std::fmt::Display;
+use std::path::Path;
 use std::process::ExitCode;
 use std::time::{Duration, Instant, SystemTime, UNIX_EPOCH};
 
-const USAGE: &str =
-    "compare [--seed N] [--first N] [--cases N] [--seconds N] [--self | --plain | --wrong NAME]
+const USAGE: &str = "compare [--seed N] [--first N] [--cases N] [--seconds N]
+        [--programs DIR | --self | --plain | --wrong NAME]
 
 Without --self, --plain or --wrong the proved library is compared; it is linked when
-SOLID_LIB_DIR is set at build time.";
+SOLID_LIB_DIR is set at build time. Its programs judge_main and walk_main are those in
+the folder DIR, target/bin if none is given.";
 
 const SHRINK_BOUND: usize = 20_000;
 /// How many further cases are tried for a lighter one once a difference is found.
@@ -26,8 +30,11 @@ struct Options {
     first: u64,
     cases: u64,
     seconds: Option<u64>,
-    other: Box<dyn Library>,
+    library: Box<dyn Library>,
+    programs: Box<dyn Programs>,
 }
+
+const RIGHT: Product = Product::INDEPENDENT;
 
 fn main() -> ExitCode {
     let options = match options(std::env::args().skip(1)) {
@@ -42,11 +49,16 @@ fn main() -> ExitCode {
         first,
         cases,
         seconds,
-        other,
+        library,
+        programs,
     } = options;
+    let other = Product {
+        library: library.as_ref(),
+        programs: programs.as_ref(),
+    };
     println!("seed {seed}");
     let began = Instant::now();
-    let mut kinds = [0_u64; 5];
+    let mut kinds = [0_u64; KINDS.len()];
     let mut numbers = [0_u64; COUNT_OF_NUMBERS];
     let mut done = 0;
     while done < cases {
@@ -55,7 +67,7 @@ fn main() -> ExitCode {
         }
         let number = first + done;
         let case = case_of(seed, number);
-        match confront(&Independent, other.as_ref(), &case) {
+        match confront(RIGHT, other, &case) {
             Ok(outcome) => {
                 kinds[kind(&case)] += 1;
                 if let Some(count) = numbers.get_mut(usize::from(outcome.number)) {
@@ -63,7 +75,7 @@ fn main() -> ExitCode {
                 }
             }
             Err(difference) => {
-                show_difference(seed, number, &case, &difference, other.as_ref());
+                show_difference(seed, number, &case, &difference, other);
                 return ExitCode::FAILURE;
             }
         }
@@ -81,7 +93,7 @@ fn main() -> ExitCode {
         .collect();
     println!(
         "{} and {} agree: seed {seed}, {done} of {cases} cases in {:.1} s ({}); answers {}",
-        Independent.name(),
+        RIGHT.name(),
         other.name(),
         began.elapsed().as_secs_f64(),
         by_kind.join(", "),
@@ -96,7 +108,8 @@ fn options(mut words: impl Iterator<Item = String>) -> Result<Options, String> {
     let mut first = 0;
     let mut cases = 20_000;
     let mut seconds = None;
-    let mut other: Option<Box<dyn Library>> = None;
+    let mut folder = None;
+    let mut stand_in: Option<(Box<dyn Library>, Box<dyn Programs>)> = None;
     while let Some(word) = words.next() {
         let mut value = || words.next().ok_or_else(|| format!("{word} wants a value"));
         let number = |text: String| text.parse::<u64>().map_err(|e| format!("{text}: {e}"));
@@ -105,30 +118,45 @@ fn options(mut words: impl Iterator<Item = String>) -> Result<Options, String> {
             "--first" => first = number(value()?)?,
             "--cases" => cases = number(value()?)?,
             "--seconds" => seconds = Some(number(value()?)?),
-            "--self" => other = Some(Box::new(Independent)),
-            "--plain" => other = Some(Box::new(Plain)),
+            "--programs" => folder = Some(value()?),
+            "--self" => stand_in = Some((Box::new(Independent), Box::new(Independent))),
+            "--plain" => stand_in = Some((Box::new(Plain), Box::new(Plain))),
             "--wrong" => {
                 let name = value()?;
                 let wrong = Wrong::of_name(&name).ok_or_else(|| {
                     let known: Vec<&str> = Wrong::ALL.iter().map(|w| w.name()).collect();
                     format!("--wrong takes one of: {}", known.join(", "))
                 })?;
-                other = Some(Box::new(wrong));
+                stand_in = Some((Box::new(wrong), Box::new(wrong)));
             }
             _ => return Err(USAGE.into()),
         }
     }
-    let other = match other {
-        Some(other) => other,
-        None => proved()?,
+    let (library, programs) = match (stand_in, folder) {
+        (Some(both), None) => both,
+        (Some(_), Some(_)) => return Err(USAGE.into()),
+        (None, folder) => (
+            proved()?,
+            binaries(folder.as_deref().unwrap_or("target/bin"))?,
+        ),
     };
     Ok(Options {
         seed,
         first,
         cases,
         seconds,
-        other,
+        library,
+        programs,
     })
+}
+
+fn binaries(folder: &str) -> Result<Box<dyn Programs>, String> {
+    match Binaries::of_folder(Path::new(folder)) {
+        Ok(binaries) => Ok(Box::new(binaries)),
+        Err(error) => Err(format!(
+            "{error}; say with --programs where the programs are"
+        )),
+    }
 }
 
 #[cfg(proved)]
@@ -141,7 +169,15 @@ fn proved() -> Result<Box<dyn Library>, String> {
     Err(format!("built without the proved library\n\n{USAGE}"))
 }
 
-const KINDS: [&str; 5] = ["judge", "walk", "outline", "read", "write"];
+const KINDS: [&str; 7] = [
+    "judge",
+    "walk",
+    "outline",
+    "read",
+    "write",
+    "judging program",
+    "walking program",
+];
 
 fn kind(case: &Case) -> usize {
     match case {
@@ -150,33 +186,29 @@ fn kind(case: &Case) -> usize {
         Case::Outline(_) => 2,
         Case::Read { .. } => 3,
         Case::Write { .. } => 4,
+        Case::JudgingProgram(_) => 5,
+        Case::WalkingProgram { .. } => 6,
     }
 }
 
-fn show_difference(
-    seed: u64,
-    number: u64,
-    case: &Case,
-    difference: &Difference,
-    other: &dyn Library,
-) {
+fn show_difference(seed: u64, number: u64, case: &Case, difference: &Difference, other: Product) {
     println!(
         "DIFFERENCE: seed {seed}, case {number} ({}), {}",
         KINDS[kind(case)],
         difference.reason
     );
-    let mut least = shrink(&Independent, other, case, SHRINK_BOUND);
+    let mut least = shrink(RIGHT, other, case, SHRINK_BOUND);
     if let Some(lighter) = lighter_case(seed, number, &least, other) {
-        let lighter = shrink(&Independent, other, &lighter, SHRINK_BOUND);
+        let lighter = shrink(RIGHT, other, &lighter, SHRINK_BOUND);
         if weight(&lighter) < weight(&least) {
             least = lighter;
         }
     }
     println!("shrunk from {} entries to {}", weight(case), weight(&least));
     println!("{}", line(&least));
-    if let Err(difference) = confront(&Independent, other, &least) {
+    if let Err(difference) = confront(RIGHT, other, &least) {
         println!("reason: {}", difference.reason);
-        show_outcome(Independent.name(), &difference.ours);
+        show_outcome(RIGHT.name(), &difference.ours);
         show_outcome(other.name(), &difference.theirs);
         let changed = difference.ours.lent.iter().zip(&difference.theirs.lent);
         if let Some(i) = changed.clone().position(|(a, b)| a != b) {
@@ -186,14 +218,14 @@ fn show_difference(
 }
 
 /// The lightest of the following cases of the same kind that shows a difference too.
-fn lighter_case(seed: u64, number: u64, found: &Case, other: &dyn Library) -> Option<Case> {
+fn lighter_case(seed: u64, number: u64, found: &Case, other: Product) -> Option<Case> {
     let mut bound = weight(found);
     let mut lightest = None;
     for i in number + 1..=number + LOOK_AHEAD {
         let case = case_of(seed, i);
         if kind(&case) == kind(found)
             && weight(&case) < bound
-            && confront(&Independent, other, &case).is_err()
+            && confront(RIGHT, other, &case).is_err()
         {
             bound = weight(&case);
             lightest = Some(case);
@@ -203,6 +235,10 @@ fn lighter_case(seed: u64, number: u64, found: &Case, other: &dyn Library) -> Op
 }
 
 fn show_outcome(name: &str, outcome: &Outcome) {
+    if outcome.places.is_empty() {
+        println!("{name}: printed {:?}", text(&outcome.printed));
+        return;
+    }
     let shown = outcome.lent.len().min(40);
     println!(
         "{name}: number {}, places {:?}, lent {:?}{}",
@@ -217,6 +253,10 @@ fn show_outcome(name: &str, outcome: &Outcome) {
     );
 }
 
+fn text(bytes: &[u8]) -> String {
+    String::from_utf8_lossy(bytes).into()
+}
+
 /// The case in the form of the stored cases, without the answer.
 fn line(case: &Case) -> String {
     match case {
@@ -226,25 +266,14 @@ fn line(case: &Case) -> String {
             start,
             direction: [dx, dy, dz],
             trail,
-        } => {
-            let trail: Vec<i64> = trail.iter().map(|&n| n.into()).collect();
-            format!(
-                "W{} {start} {dx} {dy} {dz}{}",
-                lent(tables),
-                counted(&trail)
-            )
-        }
-        Case::Outline(points) => {
-            let points: Vec<i64> = points.iter().map(|&n| n.into()).collect();
-            format!("O{}", counted(&points))
-        }
+        } => format!("W{} {start} {dx} {dy} {dz}{}", lent(tables), counted(trail)),
+        Case::Outline(points) => format!("O{}", counted(points)),
         Case::Read { tape, rooms, salt } => {
-            let tape: Vec<i64> = tape.iter().map(|&n| n.into()).collect();
             let [p, c, b] = rooms;
             let first = pattern(0, *salt);
             format!(
                 "R{} {p} {c} {b} (lent entries count up from {first})",
-                counted(&tape)
+                counted(tape)
             )
         }
         Case::Write { tables, room, salt } => {
@@ -254,17 +283,35 @@ fn line(case: &Case) -> String {
                 lent(tables)
             )
         }
+        Case::JudgingProgram(input) => format!("L{}{}", counted(&input.bytes), late(input)),
+        Case::WalkingProgram { tape, input } => {
+            let file = match tape {
+                Some(tape) => counted(tape),
+                None => " (no file)".into(),
+            };
+            let words = text(&input.bytes);
+            format!(
+                "M{file}{} ({words:?}){}",
+                counted(&input.bytes),
+                late(input)
+            )
+        }
+    }
+}
+
+fn late(input: &Input) -> String {
+    match input.parts().1.len() {
+        0 => String::new(),
+        count => format!(" (the last {count} bytes come late)"),
     }
 }
 
 fn lent(t: &Tables) -> String {
-    let points: Vec<i64> = t.points.iter().map(|&n| n.into()).collect();
-    let corners: Vec<i64> = t.corners.iter().map(|&n| n.into()).collect();
-    let begins: Vec<i64> = t.begins.iter().map(|&n| n.into()).collect();
-    counted(&points) + &counted(&corners) + &counted(&begins)
+    counted(&t.points) + &counted(&t.corners) + &counted(&t.begins)
 }
 
-fn counted(list: &[i64]) -> String {
+/// The length, then the numbers.
+fn counted<T: Display>(list: &[T]) -> String {
     let numbers: String = list.iter().map(|n| format!(" {n}")).collect();
     format!(" {}{numbers}", list.len())
 }

@@ -1,6 +1,6 @@
 //! Makes one call of the proved library, for an instruction counter: `tools/instructions` runs it.
 
-use compare::library::{Lent, Library};
+use compare::library::{Lent, Library, Room, Way};
 use independent::generate::{ball_of, polygon, solids, Rng, Tables};
 use independent::{BEGIN_ROOM, CORNER_ROOM, POINT_ROOM};
 use std::process::ExitCode;
@@ -18,7 +18,9 @@ fn main() -> ExitCode {
             ExitCode::SUCCESS
         }
         None => {
-            eprintln!("count: no such task, or built without the proved library (set SOLID_LIB_DIR)");
+            eprintln!(
+                "count: no such task, or built without the proved library (set SOLID_LIB_DIR)"
+            );
             ExitCode::from(2)
         }
     }
@@ -53,16 +55,15 @@ fn call(task: &str, size: usize) -> Option<(u16, [i64; 6])> {
         "shut" => in_line(t),
         _ => t,
     };
-    let lent = Lent {
-        points: &t.points,
-        corners: &t.corners,
-        begins: &t.begins,
-    };
+    let lent = Lent::from(&t);
     let number = match task {
         "judge" | "wound" | "shut" => library.judge(lent, &mut out),
         "walk" => {
-            let mut trail = vec![0; size];
-            library.walk(lent, 0, [1, 2, 3], &mut trail, &mut out)
+            let way = Way {
+                start: 0,
+                direction: [1, 2, 3],
+            };
+            library.walk(lent, way, &mut vec![0; size], &mut out)
         }
         _ => return None,
     };
@@ -84,7 +85,10 @@ fn wound(size: usize) -> Tables {
     let waist: Vec<_> = (0..count)
         .map(|i| {
             let angle = 4.0 * std::f64::consts::PI * i as f64 / count as f64;
-            [(8000.0 * angle.cos()).round() as i32, (8000.0 * angle.sin()).round() as i32]
+            [
+                (8000.0 * angle.cos()).round() as i32,
+                (8000.0 * angle.sin()).round() as i32,
+            ]
         })
         .collect();
     solids::bipyramid(&waist, 8000, 8000).tables()
@@ -93,25 +97,24 @@ fn wound(size: usize) -> Tables {
 fn outline_of(rng: &mut Rng, count: usize) -> Vec<i32> {
     let once = polygon::many(rng, if count > 2000 { count / 2 } else { count });
     let rounds = if count > 2000 { 2 } else { 1 };
-    (0..rounds).flat_map(|_| once.iter().flatten().copied()).collect()
+    (0..rounds)
+        .flat_map(|_| once.iter().flatten().copied())
+        .collect()
 }
 
 // The longest tape: 1,024 points, 2,048 facets of three corners.
 fn tape_call(library: &impl Library, task: &str, rng: &mut Rng) -> (u16, [i64; 6]) {
     let mut out = [0; 6];
-    let points: Vec<i32> = (0..POINT_ROOM).map(|_| rng.between(-8191, 8191)).collect();
-    let corners: Vec<u16> = (0..CORNER_ROOM).map(|_| rng.below(1024) as u16).collect();
-    let begins: Vec<u16> = (0..BEGIN_ROOM).map(|f| 3 * f as u16).collect();
-    let lent = Lent {
-        points: &points,
-        corners: &corners,
-        begins: &begins,
+    let mut tables = Tables {
+        points: (0..POINT_ROOM).map(|_| rng.between(-8191, 8191)).collect(),
+        corners: (0..CORNER_ROOM).map(|_| rng.below(1024) as u16).collect(),
+        begins: (0..BEGIN_ROOM).map(|f| 3 * f as u16).collect(),
     };
     let mut tape = vec![0; 21_509];
-    let written = library.write_tape(lent, &mut tape, &mut out);
+    let written = library.write_tape((&tables).into(), &mut tape, &mut out);
     if task == "write" {
         return (written, out);
     }
-    let (mut p, mut c, mut b) = (vec![0; POINT_ROOM], vec![0; CORNER_ROOM], vec![0; BEGIN_ROOM]);
-    (library.read_tape(&tape, &mut p, &mut c, &mut b, &mut out), out)
+    let read = library.read_tape(&tape, &mut Room::from(&mut tables), &mut out);
+    (read, out)
 }

@@ -1,11 +1,11 @@
-//! One call of the library with all that is lent to it.
+//! One call of the library with all that is lent to it, or one run of a program with its input.
 
 use super::damage::{aimed_at, any_tables};
 use super::solids::Extent;
-use super::{outlines, tapes, Rng, Tables};
+use super::{outlines, tapes, words, Mesh, Rng, Tables};
 use crate::number::ACCEPTED;
 
-/// A call and its input; `salt` fixes what the lent entries hold beforehand.
+/// A call or a run and its input; `salt` fixes what the lent entries hold beforehand.
 #[derive(Clone, Debug, PartialEq, Eq)]
 pub enum Case {
     Judge(Tables),
@@ -26,6 +26,35 @@ pub enum Case {
         room: usize,
         salt: usize,
     },
+    JudgingProgram(Input),
+    /// Without a tape there is no file.
+    WalkingProgram {
+        tape: Option<Vec<u8>>,
+        input: Input,
+    },
+}
+
+/// What stands on standard input; the last `late` bytes come after a pause.
+#[derive(Clone, Debug, PartialEq, Eq)]
+pub struct Input {
+    pub bytes: Vec<u8>,
+    pub late: usize,
+}
+
+impl Input {
+    fn new(bytes: Vec<u8>, rng: &mut Rng) -> Self {
+        let late = match rng.below(12) {
+            0 => rng.below(bytes.len() + 1),
+            _ => 0,
+        };
+        Input { bytes, late }
+    }
+
+    /// The bytes before the pause and those after it.
+    pub fn parts(&self) -> (&[u8], &[u8]) {
+        let early = self.bytes.len().saturating_sub(self.late);
+        self.bytes.split_at(early)
+    }
 }
 
 /// What entry `i` of a lent table holds before the call.
@@ -35,7 +64,7 @@ pub fn pattern(i: usize, salt: usize) -> u8 {
 
 /// Any case of any kind.
 pub fn any_case(rng: &mut Rng) -> Case {
-    match rng.below(20) {
+    match rng.below(25) {
         0..=7 => Case::Judge(any_tables(rng)),
         8..=11 => walk(rng),
         12..=14 if rng.one_in(60) => Case::Outline(outlines::at_the_count_limit(rng)),
@@ -45,7 +74,7 @@ pub fn any_case(rng: &mut Rng) -> Case {
             rooms: tapes::rooms(rng),
             salt: rng.below(251),
         },
-        _ => {
+        18..=19 => {
             let tables = if rng.one_in(2) {
                 sound_tables(rng)
             } else {
@@ -58,6 +87,8 @@ pub fn any_case(rng: &mut Rng) -> Case {
                 salt: rng.below(251),
             }
         }
+        20..=21 => judging_program(rng),
+        _ => walking_program(rng),
     }
 }
 
@@ -68,6 +99,14 @@ fn sound_tables(rng: &mut Rng) -> Tables {
         _ => Extent::Small,
     };
     aimed_at(ACCEPTED, extent, rng)
+}
+
+fn mostly_sound_tables(rng: &mut Rng) -> Tables {
+    if rng.one_in(6) {
+        any_tables(rng)
+    } else {
+        sound_tables(rng)
+    }
 }
 
 /// Bytes lent to the writer: about what the tape needs.
@@ -84,17 +123,32 @@ pub fn writer_room(tables: &Tables, rng: &mut Rng) -> usize {
 }
 
 fn walk(rng: &mut Rng) -> Case {
-    let tables = if rng.one_in(6) {
-        any_tables(rng)
-    } else {
-        sound_tables(rng)
-    };
+    let tables = mostly_sound_tables(rng);
     let (start, direction, length) = walk_input(&tables, rng);
     Case::Walk {
         tables,
         start,
         direction,
         trail: (0..length).map(|_| rng.below(1 << 16) as u16).collect(),
+    }
+}
+
+fn judging_program(rng: &mut Rng) -> Case {
+    let tape = tapes::any_for_a_program(rng);
+    Case::JudgingProgram(Input::new(tape, rng))
+}
+
+fn walking_program(rng: &mut Rng) -> Case {
+    let tables = mostly_sound_tables(rng);
+    let tape = match (rng.below(12), Mesh::from_tables(&tables)) {
+        (0, _) => None,
+        (3.., Some(mesh)) => Some(tapes::of_mesh(&mesh)),
+        _ => Some(tapes::any_for_a_program(rng)),
+    };
+    let words = words::any(rng, tables.points.len() / 3);
+    Case::WalkingProgram {
+        tape,
+        input: Input::new(words, rng),
     }
 }
 
@@ -143,45 +197,72 @@ mod tests {
     use super::*;
     use crate::generate::damage::at_a_size_limit;
     use crate::number::*;
-    use crate::{judge, outline, read_tape, walk, write_tape};
+    use crate::{judge, judging_line, outline, read_tape, walk, walking_line, write_tape};
+
+    fn number_of(case: Case) -> i64 {
+        let of_line = |line: String| line.split(' ').next().unwrap().parse().unwrap();
+        match case {
+            Case::Judge(t) => judge(&t.points, &t.corners, &t.begins)[0],
+            Case::Walk {
+                tables: t,
+                start,
+                direction,
+                mut trail,
+            } => {
+                let before = trail.clone();
+                let ([number, ..], _, _, moves) = walk(
+                    &t.points, &t.corners, &t.begins, direction, start, &mut trail,
+                );
+                let kept = if number == ACCEPTED {
+                    moves as usize + 1
+                } else {
+                    0
+                };
+                assert_eq!(before[kept..], trail[kept..]);
+                number
+            }
+            Case::Outline(points) => outline(&points).0,
+            Case::Read { tape, rooms, .. } => {
+                let [p, c, b] = rooms;
+                read_tape(&tape, &mut vec![0; p], &mut vec![0; c], &mut vec![0; b]).0
+            }
+            Case::Write {
+                tables: t, room, ..
+            } => write_tape(&t.points, &t.corners, &t.begins, &mut vec![0; room]).0,
+            Case::JudgingProgram(input) => of_line(judging_line(&input.bytes)),
+            Case::WalkingProgram { tape, input } => {
+                of_line(walking_line(&tape.unwrap_or_default(), &input.bytes))
+            }
+        }
+    }
+
+    /// How often each number is the answer to a case drawn so.
+    fn counts(seed: u64, cases: usize, draw: fn(&mut Rng) -> Case) -> [usize; COUNT_OF_NUMBERS] {
+        let mut rng = Rng::new(seed);
+        let mut counts = [0; COUNT_OF_NUMBERS];
+        for _ in 0..cases {
+            counts[number_of(draw(&mut rng)) as usize] += 1;
+        }
+        counts
+    }
 
     #[test]
     fn every_number_occurs() {
-        let mut rng = Rng::new(6);
-        let mut counts = [0; COUNT_OF_NUMBERS];
-        for _ in 0..3000 {
-            let number = match any_case(&mut rng) {
-                Case::Judge(t) => judge(&t.points, &t.corners, &t.begins)[0],
-                Case::Walk {
-                    tables: t,
-                    start,
-                    direction,
-                    mut trail,
-                } => {
-                    let before = trail.clone();
-                    let ([number, ..], _, _, moves) = walk(
-                        &t.points, &t.corners, &t.begins, direction, start, &mut trail,
-                    );
-                    let kept = if number == ACCEPTED {
-                        moves as usize + 1
-                    } else {
-                        0
-                    };
-                    assert_eq!(before[kept..], trail[kept..]);
-                    number
-                }
-                Case::Outline(points) => outline(&points).0,
-                Case::Read { tape, rooms, .. } => {
-                    let [p, c, b] = rooms;
-                    read_tape(&tape, &mut vec![0; p], &mut vec![0; c], &mut vec![0; b]).0
-                }
-                Case::Write {
-                    tables: t, room, ..
-                } => write_tape(&t.points, &t.corners, &t.begins, &mut vec![0; room]).0,
-            };
-            counts[number as usize] += 1;
-        }
+        let counts = counts(6, 3000, any_case);
         assert!(counts.iter().all(|&n| n > 5), "{counts:?}");
+    }
+
+    #[test]
+    fn programs_print_each_number_they_can() {
+        let judging = counts(9, 1000, judging_program);
+        let walking = counts(9, 1500, walking_program);
+        for number in (ACCEPTED..=OUTSIDE).chain(KIND..=TAIL) {
+            let number = number as usize;
+            assert!(judging[number] > 5, "{judging:?}");
+            assert!(walking[number] > 5, "{walking:?}");
+        }
+        assert!(walking[START as usize] > 100, "{walking:?}");
+        assert!(walking[DIRECTION as usize] > 100, "{walking:?}");
     }
 
     #[test]

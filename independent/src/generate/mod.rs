@@ -12,7 +12,7 @@ mod hull;
 mod mesh;
 mod rng;
 
-pub use case::{any_case, pattern, walk_input, writer_room, Case};
+pub use case::{any_case, pattern, walk_input, writer_room, Case, Input};
 pub use hull::{ball as ball_of, hull as hull_of};
 pub use mesh::{Mesh, Tables};
 pub use rng::Rng;

@@ -1,8 +1,9 @@
 //! Tapes, sound and damaged, record by record or byte by byte.
 
-use super::solids::{sound, Extent};
-use super::{damage, Mesh, Rng};
-use crate::{BEGIN_ROOM, CORNER_ROOM, POINT_ROOM};
+use super::solids::{sound, torus, Extent};
+use super::{damage, Mesh, Rng, Tables};
+use crate::number::ACCEPTED;
+use crate::{read_tape, BEGIN_ROOM, CORNER_ROOM, LONGEST_INPUT, POINT_ROOM};
 
 type Record = Vec<u8>;
 
@@ -41,6 +42,30 @@ pub fn of_mesh(mesh: &Mesh) -> Vec<u8> {
     records(mesh).concat()
 }
 
+/// The solid on a tape that the reader accepts.
+pub fn to_mesh(tape: &[u8]) -> Option<Mesh> {
+    let mut tables = Tables {
+        points: vec![0; POINT_ROOM],
+        corners: vec![0; CORNER_ROOM],
+        begins: vec![0; BEGIN_ROOM],
+    };
+    let Tables {
+        points,
+        corners,
+        begins,
+    } = &mut tables;
+    let (number, sizes) = read_tape(tape, points, corners, begins);
+    let [vertices, facets, run] = sizes.map(|n| n as usize);
+    points.truncate(3 * vertices);
+    corners.truncate(run);
+    begins.truncate(facets + 1);
+    if number == ACCEPTED {
+        Mesh::from_tables(&tables)
+    } else {
+        None
+    }
+}
+
 /// Any tape whose solid has few vertices.
 pub fn any_small(rng: &mut Rng) -> Vec<u8> {
     let mut mesh = sound(rng, Extent::Small);
@@ -77,6 +102,32 @@ pub fn any(rng: &mut Rng) -> Vec<u8> {
         }
         _ => any_small(rng),
     }
+}
+
+/// Any tape for a program: mostly of a solid, sound or not, now and then longer than what is read.
+pub fn any_for_a_program(rng: &mut Rng) -> Vec<u8> {
+    match rng.below(20) {
+        0 => about_as_long_as_read(rng),
+        1..=11 => match Mesh::from_tables(&damage::any_tables(rng)) {
+            Some(mesh) => of_mesh(&mesh),
+            None => any(rng),
+        },
+        _ => any(rng),
+    }
+}
+
+/// The longest tape there is, or a short one, cut or filled up to about the length that is read.
+fn about_as_long_as_read(rng: &mut Rng) -> Vec<u8> {
+    let mut tape = match rng.below(4) {
+        0 => Vec::new(),
+        1 => any_small(rng),
+        _ => of_mesh(&torus(rng, 32, 32)),
+    };
+    let about = [LONGEST_INPUT - 2, LONGEST_INPUT - 1, LONGEST_INPUT];
+    let past = [LONGEST_INPUT + 1, LONGEST_INPUT + 300, 70_000];
+    let length = rng.pick(&[about, past])[rng.below(3)];
+    tape.resize(length, rng.pick(&[0, 1, 3, 12, 255]));
+    tape
 }
 
 fn strike_record(records: &mut Vec<Record>, rng: &mut Rng) {
