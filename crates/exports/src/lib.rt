@@ -126,7 +126,7 @@ pub extern "C" fn solid_write_tape(
     ensures { λ _. ⌜ now (buffer .exit) ≡ bufferAfter (now (points .entry)) (now (corners .entry)) (now (begins .entry)) (now (buffer .entry)) ⌝ }
     ensures { λ _. ⌜ now (out .exit) ≡ noted (places (written (now (points .entry)) (now (corners .entry)) (now (begins .entry)) (now (buffer .entry)))) (now (out .entry)) ⌝ }
 {
-    let answer = writer::write_tape(points, corners, begins, buffer);
-    note_places(out, answer.first, answer.second, answer.third);
-    answer.number
+    let wrote = writer::write_tape(points, corners, begins, buffer);
+    note_places(out, wrote.first, wrote.second, wrote.third);
+    wrote.number
 }
