@@ -1,13 +1,12 @@
 -- "Answer numbers of the solid judge": the one answer to three tables.
-use mathlib.Core.Bool.{cond}
 use mathlib.Core.List.{List}
 use Prim.Native.Nat.{ℕ}
 use lib.IntN.{ℤ}
 use Rattle.space.specs.Points.{vertices}
 use Rattle.tables.specs.Tables.{facets, edges}
-use Rattle.tables.specs.Size.{isSize}
-use Rattle.tables.specs.Rules.{range, index, repeat, unused}
-use Rattle.tables.specs.Answer.{accepted, refused, orElse}
+use Rattle.tables.specs.Rules.{repeat, unused}
+use Rattle.tables.specs.Answer.{accepted, orElse}
+use Rattle.tables.specs.InOrder.{checked}
 use Rattle.tables.specs.declared.Answer.{Answer}
 use Rattle.edges.specs.Pair.{pair}
 use Rattle.closed.specs.Ring.{ring}
@@ -39,11 +38,5 @@ fromRepeat points corners begins =
     (orElse 5 (unused (vertices points) corners)
     (fromPair points corners begins))
 
-abbrev pub fromRange : List ℤ → List ℕ → List ℕ → Answer
-fromRange points corners begins =
-    orElse 2 (range points)
-    (orElse 3 (index (vertices points) corners begins)
-    (fromRepeat points corners begins))
-
 unfoldable pub judged : List ℤ → List ℕ → List ℕ → Answer
-judged points corners begins = cond (isSize points corners begins) (refused 1 0 0) (fromRange points corners begins)
+judged points corners begins = checked points corners begins (fromRepeat points corners begins)

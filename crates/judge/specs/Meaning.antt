@@ -12,6 +12,7 @@ use Rattle.tables.specs.Tables.{facets, edges}
 use Rattle.tables.specs.Size.{isSize}
 use Rattle.tables.specs.Rules.{range, index, repeat, unused}
 use Rattle.tables.specs.Answer.{accepted, refused, orElse}
+use Rattle.tables.specs.InOrder.{fromRange, InOrder}
 use Rattle.tables.specs.declared.Answer.{Answer}
 use Rattle.tables.specs.declared.Found.{Found}
 use Rattle.tables.specs.declared.Found.the-variants.{At, Nothing}
@@ -26,18 +27,13 @@ use Rattle.convex.specs.Rules.{reflex, outside}
 use Rattle.convex.specs.Meaning.{flat, flat-bent, flat-turn, reflex-none, inside, inside-outside}
 use Rattle.solid.specs.Tables.{Convex, Corner, OnPlane, volume}
 use Rattle.solid.specs.Theorems as Solid
-use Rattle.judge.specs.Judge.{fromBent, fromRing, fromPair, fromRepeat, fromRange, judged}
+use Rattle.judge.specs.Judge.{fromRepeat, judged}
 use Rattle.judge.specs.Stages.{measured}
-
--- "a solid within the sheet's limits": 1 to 3 pass
-pub record Within (points : List ℤ) (corners begins : List ℕ) : Type 0 where
-  pub size : isSize points corners begins ≡ false
-  pub range : range points ≡ Nothing
-  pub index : index (vertices points) corners begins ≡ Nothing
 
 -- every one of 4 to 12 finds nothing
 pub record Faultless (points : List ℤ) (corners begins : List ℕ) : Type 0 where
-  pub within : Within points corners begins
+  -- "a solid within the sheet's limits"
+  pub within : InOrder points corners begins
   pub no-4 : repeat corners begins ≡ Nothing
   pub no-5 : unused (vertices points) corners ≡ Nothing
   pub no-6 : pair corners begins ≡ Nothing
@@ -58,7 +54,7 @@ module _ (points : List ℤ) (corners begins : List ℕ) where
   unfolding judged
   faultless e = go (isSize points corners begins) refl e
     where
-      go : (s : Bool) → isSize points corners begins ≡ s → cond s (refused 1 0 0) (fromRange points corners begins) .number ≡ 0 → Faultless points corners begins
+      go : (s : Bool) → isSize points corners begins ≡ s → cond s (refused 1 0 0) (fromRange points corners begins (fromRepeat points corners begins)) .number ≡ 0 → Faultless points corners begins
       go true q e = absurd (omega arith)
       go false q e =
           let (a, e) = none 1 (range points) _ e in
@@ -72,20 +68,17 @@ module _ (points : List ℤ) (corners begins : List ℕ) where
           let (j, e) = none 9 (turn points corners begins) _ e in
           let (k, e) = none 10 (reflex points corners begins) _ e in
           let (l, e) = none 11 (outside points corners begins) _ e in
-          record { within = record { size = q; range = a; index = b }; no-4 = c; no-5 = d; no-6 = f; no-7 = g; no-8 = h; no-9 = i; no-10 = j; no-11 = k; no-12 = l }
+          record { within = record { sizes = q; ranges = a; numbers = b }; no-4 = c; no-5 = d; no-6 = f; no-7 = g; no-8 = h; no-9 = i; no-10 = j; no-11 = k; no-12 = l }
 
   -- "accepted: V, E, F"
   pub faultless-accepted : Faultless points corners begins → judged points corners begins ≡ accepted (vertices points) (edges corners) (facets begins)
   unfolding judged
   faultless-accepted F =
-      rw (F .within .size, F .within .range, F .within .index, F .no-4, F .no-5, F .no-6, F .no-7, F .no-8, F .no-9, F .no-10, F .no-11, F .no-12)
-
-  all-measured : Within points corners begins → Measured points corners begins
-  all-measured W = measured points corners begins (W .size) (W .range) (W .index)
+      rw (F .within .sizes, F .within .ranges, F .within .numbers, F .no-4, F .no-5, F .no-6, F .no-7, F .no-8, F .no-9, F .no-10, F .no-11, F .no-12)
 
   pub faultless-convex : Faultless points corners begins → Convex (tablesOf points corners begins)
   faultless-convex F =
-      let m = all-measured (F .within) in
+      let m = measured (F .within) in
       let laid = m .sound .laid in
       record {
         closed = is-closed points (m .sound) (record { no-4 = F .no-4; no-5 = F .no-5; no-6 = F .no-6; no-7 = F .no-7; no-8 = F .no-8 });
@@ -94,9 +87,9 @@ module _ (points : List ℤ) (corners begins : List ℕ) where
       }
 
   -- REFLEX, which `Convex` does not mention, refuses no convex solid (Lemma R)
-  pub convex-faultless : Within points corners begins → Convex (tablesOf points corners begins) → Faultless points corners begins
+  pub convex-faultless : InOrder points corners begins → Convex (tablesOf points corners begins) → Faultless points corners begins
   convex-faultless W C =
-      let m = all-measured W in
+      let m = measured W in
       let laid = m .sound .laid in
       let n = passes points (m .sound) (C .closed) in
       record {
@@ -114,7 +107,7 @@ module _ (points : List ℤ) (corners begins : List ℕ) where
 
   -- ---- demand 2
 
-  pub accepts-exactly : judged points corners begins .number ≡ 0 ↔ (Within points corners begins × Convex (tablesOf points corners begins))
+  pub accepts-exactly : judged points corners begins .number ≡ 0 ↔ (InOrder points corners begins × Convex (tablesOf points corners begins))
   accepts-exactly = (
     λ e. let F = faultless e in (F .within, faultless-convex F),
     λ (W, C). ap (λ a. a .number) (faultless-accepted (convex-faultless W C)),
@@ -132,7 +125,7 @@ module _ (points : List ℤ) (corners begins : List ℕ) where
 
   module _ (e : judged points corners begins .number ≡ 0) where
     pub is-measured : Measured points corners begins
-    is-measured = all-measured (faultless e .within)
+    is-measured = measured (faultless e .within)
 
     pub is-convex : Convex (tablesOf points corners begins)
     is-convex = faultless-convex (faultless e)

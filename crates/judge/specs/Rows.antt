@@ -11,6 +11,7 @@ use Rattle.tables.specs.Rules.{outOfRange, wild, unnamed, range, index, repeat,
 use Rattle.tables.specs.Facets.{onFacets}
 use Rattle.tables.specs.Found.{Lowest, First, Searched, Sought, found-at, found-none, place-at, place-none, searched, sought, lowest-is, nowhere-is, first-is, no-place-is, Nowhere, NoPlace}
 use Rattle.tables.specs.Answer.{accepted, refused, orElse}
+use Rattle.tables.specs.InOrder.{fromRange}
 use Rattle.tables.specs.declared.Answer.{Answer}
 use Rattle.tables.specs.declared.Found.{Found}
 use Rattle.tables.specs.declared.Found.the-variants.{At, Nothing}
@@ -19,7 +20,7 @@ use Rattle.closed.specs.Ring.{broken, ring}
 use Rattle.closed.specs.Apart.{isApart, apart}
 use Rattle.flat.specs.Rules.{isBent, isTurn, bent, turn}
 use Rattle.convex.specs.Rules.{isReflex, isOutside, reflex, outside}
-use Rattle.judge.specs.Judge.{fromRange, judged}
+use Rattle.judge.specs.Judge.{fromRepeat, judged}
 
 module _ (points : List ℤ) (corners begins : List ℕ) where
   -- no number up to this one applies
@@ -102,7 +103,7 @@ module _ (points : List ℤ) (corners begins : List ℕ) where
   unfolding judged
   row = go (isSize points corners begins) refl
     where
-      go : (s : Bool) → isSize points corners begins ≡ s → Row (cond s (refused 1 0 0) (fromRange points corners begins))
+      go : (s : Bool) → isSize points corners begins ≡ s → Row (cond s (refused 1 0 0) (fromRange points corners begins (fromRepeat points corners begins)))
       go true e = SIZE e
       go false p1 =
           by-lowest (searched (vertices points) (outOfRange points)) (λ v h. RANGE p1 h) (λ h.

@@ -1,12 +1,11 @@
 -- What is known on the way, after each group of numbers passed. Assumes nothing.
 use mathlib.Core.Path.{_≡_}
-use mathlib.Core.Bool.{false}
 use mathlib.Core.List.{List}
 use Prim.Native.Nat.{ℕ}
 use lib.IntN.{ℤ}
 use Rattle.space.specs.Points.{vertices}
-use Rattle.tables.specs.Size.{isSize}
-use Rattle.tables.specs.Rules.{range, index, repeat, unused, in-limits}
+use Rattle.tables.specs.Rules.{repeat, unused, in-limits}
+use Rattle.tables.specs.InOrder.{InOrder}
 use Rattle.tables.specs.declared.Found.the-variants.{Nothing}
 use Rattle.edges.specs.Pair.{pair, pair-none}
 use Rattle.closed.specs.Ring.{ring}
@@ -38,9 +37,8 @@ pub record UpTo8 (points : List ℤ) (corners begins : List ℕ) : Type 0 where
   pub closed : Closed (tablesOf points corners begins)
 
 -- 1 to 3
-pub measured : (points : List ℤ) (corners begins : List ℕ) → isSize points corners begins ≡ false → range points ≡ Nothing
-    → index (vertices points) corners begins ≡ Nothing → Measured points corners begins
-measured points corners begins s r i = record { ranged = in-limits points r; sound = all-sound points s i }
+pub measured : {points : List ℤ} {corners begins : List ℕ} → InOrder points corners begins → Measured points corners begins
+measured {points} o = record { ranged = in-limits points (o .ranges); sound = all-sound points (o .sizes) (o .numbers) }
 
 pub up-to-8 : {points : List ℤ} {corners begins : List ℕ} → UpTo6 points corners begins → ring (vertices points) corners begins ≡ Nothing → apart corners begins ≡ Nothing
     → UpTo8 points corners begins

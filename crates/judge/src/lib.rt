@@ -129,16 +129,9 @@ pub fn judge_with_index(
     ensures { λ r. ⌜ r ≡ judged (now (points .entry)) (now (corners .entry)) (now (begins .entry)) ⌝ }
     ensures { λ r. ⌜ Indexed r (now (corners .entry)) (now (begins .entry)) (now (ends .exit)) (now (last .exit)) (now (back .exit)) ⌝ }
 {
-    if tables::size(points, corners, begins) {
-        return tables::Answer::refused(1, 0, 0);
-    }
-    let range = tables::range(points);
-    if let tables::Found::At(v, z) = range {
-        return tables::Answer::refused(2, v, z);
-    }
-    let index = tables::index(corners, begins, points.len() / 3);
-    if let tables::Found::At(f, p) = index {
-        return tables::Answer::refused(3, f, p);
+    let early = tables::check(points, corners, begins);
+    if early.number != 0 {
+        return early;
     }
     from_repeat(points, corners, begins, ends, last, back)
 }

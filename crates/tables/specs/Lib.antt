@@ -6,4 +6,5 @@ pub mod Size
 pub mod Places
 pub mod Facets
 pub mod Rules
+pub mod InOrder
 pub mod Marks

@@ -8,6 +8,7 @@ ghost use Rattle.tables.specs.Tables.{mostVertices, facets, facetOf, nex
 ghost use Rattle.tables.specs.Size.{wrongLengths, wrongEnds, wrongSides, isSize, Laid};
 ghost use Rattle.tables.specs.Places.{Named};
 ghost use Rattle.tables.specs.Rules.{lookUp, outOfRange, range, wild, index, repeat, unnamed, unused};
+ghost use Rattle.tables.specs.InOrder.{checked};
 ghost use Rattle.tables.specs.Marks.{Marks};
 
 pub const LEAST_VERTICES: usize = 4;
@@ -133,7 +134,7 @@ fn some_wrong_sides(begins: &[u16]) -> bool
 }
 
 // Number 1, SIZE: whether it applies.
-pub fn size(points: &[i32], corners: &[u16], begins: &[u16]) -> bool
+fn size(points: &[i32], corners: &[u16], begins: &[u16]) -> bool
     ensures { λ r. ⌜ r ≡ isSize (now (points .entry)) (now (corners .entry)) (now (begins .entry)) ⌝ }
 {
     if wrong_lengths(points.len(), corners.len(), begins.len()) {
@@ -183,7 +184,7 @@ fn out_of_range(points: &[i32], v: usize) -> bool
 }
 
 // Number 2, RANGE: its first place.
-pub fn range(points: &[i32]) -> Found
+fn range(points: &[i32]) -> Found
     ensures { λ r. ⌜ r ≡ range (now (points .entry)) ⌝ }
 {
     let n = points.len() / 3;
@@ -212,7 +213,7 @@ fn first_wild(part: &[u16], n: usize) -> usize
 }
 
 // Number 3, INDEX: its first place; n is V.
-pub fn index(corners: &[u16], begins: &[u16], n: usize) -> Found
+fn index(corners: &[u16], begins: &[u16], n: usize) -> Found
     requires { ⌜ Laid (now corners) (now begins) ⌝ }
     ensures { λ r. ⌜ r ≡ index n (now (corners .entry)) (now (begins .entry)) ⌝ }
 {
@@ -227,6 +228,24 @@ pub fn index(corners: &[u16], begins: &[u16], n: usize) -> Found
         f += 1;
     }
     Found::Nothing
+}
+
+// Numbers 1 to 3, or 0 where the tables' sizes, ranges and corner numbers are in order.
+pub fn check(points: &[i32], corners: &[u16], begins: &[u16]) -> Answer
+    ensures { λ r. ⌜ r ≡ checked (now (points .entry)) (now (corners .entry)) (now (begins .entry)) (accepted 0 0 0) ⌝ }
+{
+    if size(points, corners, begins) {
+        return Answer::refused(1, 0, 0);
+    }
+    match range(points) {
+        Found::At(first, second) => return Answer::refused(2, first, second),
+        Found::Nothing => {}
+    }
+    match index(corners, begins, points.len() / 3) {
+        Found::At(first, second) => return Answer::refused(3, first, second),
+        Found::Nothing => {}
+    }
+    Answer::accepted(0, 0, 0)
 }
 
 // The position after p in a circuit of n.

@@ -1,5 +1,4 @@
 -- The definitions that the contracts cite.
-pub mod Stores
 pub mod Runs
 pub mod Number
 pub mod Reading

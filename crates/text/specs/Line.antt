@@ -11,7 +11,7 @@ use lib.Seq.{sets, sets-eq, length-sets, take-at}
 use mir.Syntax.{w64}
 use mir.Val.{SFits}
 use borrow.Author.Tests.{ne-eqb}
-use Rattle.text.specs.Stores.{sets-append}
+use Rattle.whole.specs.Stores.{sets-append}
 use Rattle.text.specs.Runs.{among, other, each, each-cons, drop-next, drop-end}
 use Rattle.text.specs.Number.{isDigit, digit-range}
 use Rattle.text.specs.Shown.{shown, digits, each-digit, some-digit, few-bytes}

@@ -31,7 +31,8 @@ use Rattle.tape.specs.declared.Outcome.the-variants.{Read, Refused}
 use Rattle.reader.specs.Answer.{answerOf, noRoom, outcome, reading, pointsAfter, cornersAfter, beginsAfter}
 use Rattle.reader.specs.Room.{with-room}
 use Rattle.writer.specs.Answer.{spaced, written, bufferAfter}
-use Rattle.writer.specs.InOrder.{InOrder, passes, laid, placed}
+use Rattle.tables.specs.InOrder.{InOrder, passes, laid}
+use Rattle.writer.specs.Owed.{placed}
 use Rattle.trips.specs.Taped.{Sixteen, Holds, Taped}
 use Rattle.trips.specs.ReadIsTape.{whole-taped}
 use Rattle.trips.specs.TapeIsRead.{holds-whole, points-are, corners-are, begins-are}

@@ -9,6 +9,7 @@ pub mod Machine
 pub mod First
 pub mod Count
 pub mod Filled
+pub mod Stores
 pub mod Orbit
 pub mod Rounds
 pub mod Flood

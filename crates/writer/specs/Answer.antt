@@ -5,20 +5,13 @@ use Prim.Native.Nat.{ℕ}
 use lib.Dec.{ltb, eqb}
 use lib.IntN.{ℤ}
 use lib.ListN.{length}
-use Rattle.space.specs.Points.{vertices}
-use Rattle.tables.specs.Answer.{accepted, refused, orElse}
-use Rattle.tables.specs.Size.{isSize}
-use Rattle.tables.specs.Rules.{range, index}
+use Rattle.tables.specs.Answer.{accepted, refused}
+use Rattle.tables.specs.InOrder.{checked}
 use Rattle.tables.specs.declared.Answer.{Answer}
 use Rattle.tape.specs.Over.{over}
 use Rattle.tape.specs.Tape.{tape}
 
--- "The writer refuses with 1, 2 or 3 as the judge does", or answers what comes after
-abbrev pub checked : List ℤ → List ℕ → List ℕ → Answer → Answer
-checked points corners begins later =
-    cond (isSize points corners begins) (refused 1 0 0) (orElse 2 (range points) (orElse 3 (index (vertices points) corners begins) later))
-
--- "then 23 SPACE, places 0, exactly when the lent buffer is shorter than the tape. Otherwise it gives the length"
+-- "The writer refuses with 1, 2 or 3 as the judge does, then 23 SPACE, places 0, exactly when the lent buffer is shorter than the tape. Otherwise it gives the length"
 abbrev pub spaced : List ℕ → List ℕ → Answer
 spaced bytes buffer = cond (ltb (length buffer) (length bytes)) (refused 23 0 0) (accepted (length bytes) 0 0)
 

@@ -8,12 +8,11 @@ ghost use mir.Val.{SFits};
 ghost use Rattle.space.specs.Points.{vertices};
 ghost use Rattle.tables.specs.Tables.{mostSides, facets};
 ghost use Rattle.tables.specs.Size.{Laid};
-ghost use Rattle.tables.specs.Answer.{accepted};
+ghost use Rattle.tables.specs.InOrder.{InOrder};
 ghost use Rattle.tape.specs.Over.{over};
 ghost use Rattle.tape.specs.Records.{point, facet, bytes, packed, framed, pointBytes, facetBytes, Placed};
 ghost use Rattle.tape.specs.Tape.{tape};
-ghost use Rattle.writer.specs.Answer.{checked, written, bufferAfter};
-ghost use Rattle.writer.specs.InOrder.{InOrder};
+ghost use Rattle.writer.specs.Answer.{written, bufferAfter};
 
 // A point's record, at the beginning of the unwritten rest.
 fn put_point(rest: &mut [u8], x: i32, y: i32, z: i32)
@@ -89,24 +88,6 @@ fn put_facets(buffer: &mut [u8], corners: &[u16], begins: &[u16])
     }
 }
 
-// Numbers 1 to 3 as the judge gives them, or 0.
-fn check(points: &[i32], corners: &[u16], begins: &[u16]) -> tables::Answer
-    ensures { λ r. ⌜ r ≡ checked (now (points .entry)) (now (corners .entry)) (now (begins .entry)) (accepted 0 0 0) ⌝ }
-{
-    if tables::size(points, corners, begins) {
-        return tables::Answer::refused(1, 0, 0);
-    }
-    match tables::range(points) {
-        tables::Found::At(first, second) => return tables::Answer::refused(2, first, second),
-        tables::Found::Nothing => {}
-    }
-    match tables::index(corners, begins, points.len() / 3) {
-        tables::Found::At(first, second) => return tables::Answer::refused(3, first, second),
-        tables::Found::Nothing => {}
-    }
-    tables::Answer::accepted(0, 0, 0)
-}
-
 // The tape of tables in order, written over the beginning of a buffer that has room.
 fn put_tape(points: &[i32], corners: &[u16], begins: &[u16], buffer: &mut [u8])
     requires { ⌜ InOrder (now points) (now corners) (now begins) × (length (tape (now points) (now corners) (now begins)) ≤ length (now buffer)) ⌝ }
@@ -131,7 +112,7 @@ pub fn write_tape(
     ensures { λ r. ⌜ r ≡ written (now (points .entry)) (now (corners .entry)) (now (begins .entry)) (now (buffer .entry)) ⌝ }
     ensures { λ _. ⌜ now (buffer .exit) ≡ bufferAfter (now (points .entry)) (now (corners .entry)) (now (begins .entry)) (now (buffer .entry)) ⌝ }
 {
-    let answer = check(points, corners, begins);
+    let answer = tables::check(points, corners, begins);
     if answer.number != 0 {
         return answer;
     }

@@ -11,7 +11,8 @@ use lib.IntN.{pos}
 use lib.ListN.{length, take, getD, length-set}
 use lib.Seq.{sets, take-suc, take-all, length-take-le}
 use mir.Facts.{toZ-ofZ}
-use Rattle.tape.specs.Over.{sets-append, sets-over}
+use Rattle.whole.specs.Stores.{sets-append}
+use Rattle.tape.specs.Over.{sets-over}
 use Rattle.exports.specs.Out.{noted}
 use Rattle.exports.proofs.note.Statement.{statement}
 use Rattle.exports.proofs.note.Tie as tie

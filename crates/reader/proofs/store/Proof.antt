@@ -7,7 +7,7 @@ use native.Mathlib.Omega.{arith}
 use native.Mathlib.Numerals.{add-one}
 use lib.ListN.{length, take, getD, length-set}
 use lib.Seq.{sets, take-suc, length-take-le}
-use Rattle.tape.specs.Over.{sets-append}
+use Rattle.whole.specs.Stores.{sets-append}
 use Rattle.reader.proofs.store.Statement.{statement}
 use Rattle.reader.proofs.store.Tie as tie
 

@@ -6,7 +6,7 @@ use native.Mathlib.Omega.{arith}
 use lib.ListN.{length, length-set}
 use borrow.Fn.Kinds.{In}
 use borrow.Fn.PlainCycle.{Measures, is, falls, and}
-use Rattle.text.specs.Stores.{sets-append}
+use Rattle.whole.specs.Stores.{sets-append}
 use Rattle.text.specs.Shown.{digit, digits, digit-is, digits-are, length-digit, length-digits}
 use Rattle.text.proofs.put_digits.Reads as put-digits
 use Rattle.text.proofs.put_digits.Kinds as put-digits-kinds

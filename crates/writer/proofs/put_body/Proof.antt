@@ -5,7 +5,7 @@ use Prim.Native.Nat.{ℕ, _-_, _*_, _≤_, _<_}
 use lib.ListN.{length, take, getD}
 use lib.Seq.{sets, length-sets, take-length, length-take-le}
 use Rattle.tape.specs.Little.{bytesOf}
-use Rattle.tape.specs.Over.{sets-append}
+use Rattle.whole.specs.Stores.{sets-append}
 use Rattle.tape.specs.Records.{packed, packed-more, length-packed}
 use Rattle.writer.proofs.put_body.Statement.{statement}
 use Rattle.writer.proofs.put_body.Tie as tie

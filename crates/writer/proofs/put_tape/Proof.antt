@@ -9,7 +9,8 @@ use Rattle.tables.specs.Tables.{facets}
 use Rattle.tape.specs.Over.{Wrote, wrote, back, handed, length-part}
 use Rattle.tape.specs.Records.{pointBytes, facetBytes, recordBytes, parted, length-packed, length-points, length-all-facets, length-records}
 use Rattle.tape.specs.Tape.{ending, tape}
-use Rattle.writer.specs.InOrder.{Long, long, laid, placed}
+use Rattle.tables.specs.InOrder.{laid}
+use Rattle.writer.specs.Owed.{Long, long, placed}
 use Rattle.writer.proofs.put_tape.Statement.{statement}
 use Rattle.writer.proofs.put_tape.Tie as tie
 

@@ -1,7 +1,8 @@
 -- `writer::write_tape` meets its contract. Assumes nothing.
 use borrow.Author.Needs.{needs}
 use native.Mathlib.Omega.{arith}
-use Rattle.writer.specs.InOrder.{InOrder, Long, long, faulty-owed, number-0, short-owed, written-owed}
+use Rattle.tables.specs.InOrder.{InOrder, passed}
+use Rattle.writer.specs.Owed.{Long, long, faulty-owed, short-owed, written-owed}
 use Rattle.writer.proofs.write_tape.Statement.{statement}
 use Rattle.writer.proofs.write_tape.Tie as tie
 
@@ -20,7 +21,7 @@ module _ (c : tie.Else1) where
   entry = start (c .before .before)
 
   ordered : let a = entry .args in InOrder (a .points .now) (a .corners .now) (a .begins .now)
-  ordered = let a = entry .args in number-0 (a .points .now) (a .corners .now) (a .begins .now) (a .buffer .now) (c .before .before .check .ensures) (c .if1 .left)
+  ordered = let a = entry .args in passed (a .points .now) (a .corners .now) (a .begins .now) (c .before .before .check .ensures) (c .if1 .left)
 
   sizes : let a = entry .args in Long (a .points .now) (a .corners .now) (a .begins .now)
   sizes = long ordered

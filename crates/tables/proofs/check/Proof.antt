@@ -1,12 +1,12 @@
--- `writer::check` meets its contract. Assumes nothing.
+-- `tables::check` meets its contract. Assumes nothing.
 use borrow.Author.Needs.{needs}
 use mathlib.Core.Path.{_≡_, sym, _∙_}
 use mathlib.Core.Bool.{false}
 use Rattle.tables.specs.Size.{isSize, sized}
 use Rattle.tables.specs.Rules.{range}
 use Rattle.tables.specs.declared.Found.the-variants.{Nothing}
-use Rattle.writer.proofs.check.Statement.{statement}
-use Rattle.writer.proofs.check.Tie as tie
+use Rattle.tables.proofs.check.Statement.{statement}
+use Rattle.tables.proofs.check.Tie as tie
 
 abbrev start : tie.After-size → tie.Start
 start c = c .before .before .before

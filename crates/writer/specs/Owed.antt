@@ -1,0 +1,66 @@
+-- What tables in order have for the writer, and what it owes. Assumes nothing.
+use mathlib.Core.Path.{_≡_, refl, ap, _∙_}
+use mathlib.Core.List.{List}
+use Prim.Native.Nat.{ℕ, _+_, _*_, _≤_, _<_}
+use native.Mathlib.Omega.{arith}
+use lib.IntN.{ℤ}
+use lib.ListN.{length}
+use borrow.Author.Tests.{lt-ltb, le-ltb, ne-eqb}
+use mir.Syntax.{w16}
+use Rattle.whole.specs.Bounds.{within-fits}
+use Rattle.space.specs.Points.{vertices}
+use Rattle.tables.specs.Tables.{mostVertices, mostFacets, mostCorners, facets}
+use Rattle.tables.specs.Size.{sized}
+use Rattle.tables.specs.Rules.{in-limits}
+use Rattle.tables.specs.Answer.{accepted, refused}
+use Rattle.tables.specs.declared.Answer.{Answer}
+use Rattle.tables.specs.InOrder.{checked, InOrder, passes, laid, stopped}
+use Rattle.tape.specs.Over.{over}
+use Rattle.tape.specs.Records.{Placed, parted}
+use Rattle.tape.specs.Tape.{tape, length-tape}
+use Rattle.writer.specs.Answer.{spaced, written, bufferAfter}
+
+-- the sizes of such tables and of their tape
+pub record Long (points : List ℤ) (corners begins : List ℕ) : Type 0 where
+  pub some : 1 ≤ length begins
+  pub most : length begins ≤ mostFacets + 1
+  pub short : length corners ≤ mostCorners
+  pub few : vertices points ≤ mostVertices
+  pub length-is : length (tape points corners begins) ≡ 7 * vertices points + (facets begins + 2 * length corners) + 5
+
+module _ {points : List ℤ} {corners begins : List ℕ} (o : InOrder points corners begins) where
+  pub placed : Placed points
+  placed = record {
+    few = sized points corners begins (o .sizes) .few;
+    fits = λ v k l h. within-fits {w = w16} (in-limits points (o .ranges) v k l h) tt;
+  }
+
+  -- the sizes, for the arithmetic of the writer
+  pub long : Long points corners begins
+  long = record {
+    some = omega (arith, laid o .some);
+    most = laid o .most;
+    short = laid o .short;
+    few = placed .few;
+    length-is = length-tape points (parted (laid o));
+  }
+
+module _ (points : List ℤ) (corners begins buffer : List ℕ) where
+  abbrev pub Owed : Answer → List ℕ → Type 0
+  Owed answer new = (answer ≡ written points corners begins buffer) × (new ≡ bufferAfter points corners begins buffer)
+
+  -- number 1, 2 or 3
+  pub faulty-owed : {answer : Answer} → answer ≡ checked points corners begins (accepted 0 0 0) → (answer .number ≡ 0 → ⊥) → Owed answer buffer
+  faulty-owed {answer} e h =
+      let s = stopped points corners begins e h (spaced (tape points corners begins) buffer) in
+      (s, rw (← s, ne-eqb (answer .number) 0 h))
+
+  module _ (o : InOrder points corners begins) where
+    pub short-owed : {answer : Answer} → answer ≡ refused 23 0 0 → length buffer < length (tape points corners begins) → Owed answer buffer
+    short-owed e h =
+        rw (passes o (spaced (tape points corners begins) buffer), lt-ltb (length buffer) (length (tape points corners begins)) h) (e, refl)
+
+    pub written-owed : {answer : Answer} {n : ℕ} {new : List ℕ} → answer ≡ accepted n 0 0 → n ≡ length (tape points corners begins)
+        → length (tape points corners begins) ≤ length buffer → new ≡ over (tape points corners begins) buffer → Owed answer new
+    written-owed a e h q =
+        rw (passes o (spaced (tape points corners begins) buffer), le-ltb (length buffer) (length (tape points corners begins)) h) (a ∙ ap (λ (k : ℕ). accepted k 0 0) e, q)
