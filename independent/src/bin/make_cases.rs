@@ -1,4 +1,4 @@
-//! Prints stored cases, one a line: the input, a colon, and the answer of the literal judge.
+//! Prints stored cases, one a line: the input, a colon, and the answer of the literal judge, byte for byte as it is to be printed.
 
 use independent::generate::{damage, outlines, pattern, solids, tapes, walk_input, words};
 use independent::generate::{writer_room, Mesh, Rng, Tables};
@@ -15,6 +15,8 @@ const SEED: u64 = 20_260_101;
 const MOST_VERTICES: usize = 20;
 /// How many entries past the need are printed, to show that they keep their values.
 const PAST_THE_NEED: usize = 8;
+/// What the reader's tables and the writer's buffer hold before the call.
+const FILLER: u8 = 77;
 
 fn main() -> io::Result<()> {
     let mut printer = Printer {
@@ -89,29 +91,33 @@ impl<W: Write> Printer<W> {
     }
 
     fn read(&mut self, tape: &[u8], rooms: [usize; 3]) -> io::Result<()> {
-        let mut points: Vec<i32> = (0..rooms[0]).map(|i| pattern(i, 0).into()).collect();
-        let mut corners: Vec<u16> = (0..rooms[1]).map(|i| pattern(i, 0).into()).collect();
-        let mut begins: Vec<u16> = (0..rooms[2]).map(|i| pattern(i, 0).into()).collect();
+        let mut points = vec![i32::from(FILLER); rooms[0]];
+        let mut corners = vec![u16::from(FILLER); rooms[1]];
+        let mut begins = vec![u16::from(FILLER); rooms[2]];
         let (number, places) = read_tape(tape, &mut points, &mut corners, &mut begins);
         self.count(number);
         let need = match number {
             ACCEPTED => [3 * places[0], places[2], places[1] + 1].map(|n| n as usize),
             _ => [0; 3],
         };
+        let points = shown(&points, need[0]);
+        let corners = shown(&corners, need[1]);
+        let begins = shown(&begins, need[2]);
         writeln!(
             self.out,
-            "R{}{} : {number}{} |{} |{} |{}",
+            "R{}{}{} : {number}{} |{} |{} |{}",
             counted(tape),
             numbers(&rooms),
+            numbers(&[points.len(), corners.len(), begins.len()]),
             numbers(&places),
-            numbers(shown(&points, need[0])),
-            numbers(shown(&corners, need[1])),
-            numbers(shown(&begins, need[2]))
+            numbers(points),
+            numbers(corners),
+            numbers(begins)
         )
     }
 
     fn write(&mut self, t: &Tables, room: usize) -> io::Result<()> {
-        let mut buffer: Vec<u8> = (0..room).map(|i| pattern(i, 0)).collect();
+        let mut buffer = vec![FILLER; room];
         let (number, places) = write_tape(&t.points, &t.corners, &t.begins, &mut buffer);
         self.count(number);
         let need = if number == ACCEPTED {
@@ -119,25 +125,27 @@ impl<W: Write> Printer<W> {
         } else {
             0
         };
+        let buffer = shown(&buffer, need);
         writeln!(
             self.out,
-            "T{} {room} : {number}{} |{}",
+            "T{} {room} {} : {number}{} |{}",
             lent(t),
+            buffer.len(),
             numbers(&places),
-            numbers(shown(&buffer, need))
+            numbers(buffer)
         )
     }
 
     fn judging(&mut self, input: &[u8]) -> io::Result<()> {
         let line = judging_line(input);
         self.count_line(&line);
-        write!(self.out, "L{} : {line}", counted(input))
+        write!(self.out, "L{} :{line}", counted(input))
     }
 
     fn walking(&mut self, tape: &[u8], input: &[u8]) -> io::Result<()> {
         let line = walking_line(tape, input);
         self.count_line(&line);
-        write!(self.out, "M{}{} : {line}", counted(tape), counted(input))
+        write!(self.out, "M{}{} :{line}", counted(tape), counted(input))
     }
 
     fn look_up(&mut self, t: &Tables, number: u32) -> io::Result<()> {
@@ -169,6 +177,7 @@ fn lent(t: &Tables) -> String {
     counted(&t.points) + &counted(&t.corners) + &counted(&t.begins)
 }
 
+/// The part of a lent table that is printed after the call.
 fn shown<T>(table: &[T], need: usize) -> &[T] {
     &table[..table.len().min(need + PAST_THE_NEED)]
 }
@@ -438,10 +447,11 @@ fn reader_cases<W: Write>(printer: &mut Printer<W>, rng: &mut Rng) -> io::Result
     for kind in [2, 12, 13, 255] {
         printer.read(&[kind], ROOMS)?;
     }
-    for short in 0..3 {
-        for room in [0, ROOMS[short] - 1] {
+    for table in 0..3 {
+        // The last is room enough, though it would not be if it were cut down to 16 bits.
+        for room in [0, ROOMS[table] - 1, (1 << 16) + 5] {
             let mut rooms = ROOMS;
-            rooms[short] = room;
+            rooms[table] = room;
             printer.read(&t, rooms)?;
             printer.read(&[2], rooms)?;
         }

@@ -1,6 +1,7 @@
 -- `cases_main::run` meets its contract. Assumes nothing.
 use borrow.Author.Needs.{needs}
 use Prim.Native.Nat.{_-_}
+use lib.ListN.{length}
 use Rattle.cases_main.proofs.run.Statement.{statement}
 use Rattle.cases_main.proofs.run.Tie as tie
 
@@ -8,7 +9,7 @@ abbrev Inv-loop : tie.InvT-loop
 Inv-loop text at₀ i₀ at i = Unit {0}
 
 abbrev μ-loop : tie.MeasureT-loop
-μ-loop text at₀ i₀ at i = 1000 - i
+μ-loop text at₀ i₀ at i = length text - i
 
 pub run-spec : {M : Type 1} → statement M
 run-spec =

@@ -1,11 +1,11 @@
--- `cases_main::signed` meets its contract. Assumes nothing.
+-- `cases_main::numbers::signed` meets its contract. Assumes nothing.
 use borrow.Author.Needs.{needs}
 use mir.Syntax.{w32}
 use mir.Val.{SFits}
 use mir.Facts.{toZ-ofZ}
 use Rattle.whole.specs.Bounds.{within-fits, within-beyond}
-use Rattle.cases_main.proofs.signed.Statement.{statement}
-use Rattle.cases_main.proofs.signed.Tie as tie
+use Rattle.cases_main.proofs.numbers.signed.Statement.{statement}
+use Rattle.cases_main.proofs.numbers.signed.Tie as tie
 
 cast-result : tie.Need-cast-result
 cast-result c =

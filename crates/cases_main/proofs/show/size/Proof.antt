@@ -1,11 +1,11 @@
--- `cases_main::size` meets its contract. Assumes nothing.
+-- `cases_main::show::size` meets its contract. Assumes nothing.
 use borrow.Author.Needs.{needs}
 use lib.IntN.{pos}
 use native.Mathlib.Omega.{arith}
 use mir.Facts.{toZ-ofZ}
 use Rattle.whole.specs.Bounds.{_within_, within-fits, within-beyond, within--}
-use Rattle.cases_main.proofs.size.Statement.{statement}
-use Rattle.cases_main.proofs.size.Tie as tie
+use Rattle.cases_main.proofs.show.size.Statement.{statement}
+use Rattle.cases_main.proofs.show.size.Tie as tie
 
 sub-natural : tie.Need-sub-natural
 sub-natural c =

@@ -1,4 +1,4 @@
--- `cases_main::natural` meets its contract. Assumes nothing.
+-- `cases_main::numbers::natural` meets its contract. Assumes nothing.
 use borrow.Author.Needs.{needs}
 use mathlib.Core.Path.{_≡_, refl}
 use mathlib.Core.Bool.{false, true≢false}
@@ -10,8 +10,8 @@ use mir.Syntax.{w64}
 use mir.Val.{SFits}
 use mir.Facts.{toZ-ofZ, fits-natAbs}
 use Rattle.whole.specs.Order.{ltZ-false}
-use Rattle.cases_main.proofs.natural.Statement.{statement}
-use Rattle.cases_main.proofs.natural.Tie as tie
+use Rattle.cases_main.proofs.numbers.natural.Statement.{statement}
+use Rattle.cases_main.proofs.numbers.natural.Tie as tie
 
 is-pos : (z : ℤ) → ltZ z (pos 0) ≡ false → z ≡ pos (natAbs z)
 is-pos (pos n) e = refl

@@ -1,0 +1,2 @@
+-- What the contracts of the stored cases cite.
+pub mod Begin

@@ -1,0 +1,72 @@
+// What is printed: numbers, each with a blank before it.
+use crate::numbers::natural;
+
+// The absolute value of a number that has 32 bits; 0 for any other.
+fn size(z: i64) -> usize {
+    if z < -4294967295 {
+        return 0;
+    }
+    if 4294967295 < z {
+        return 0;
+    }
+    if z < 0 {
+        return natural(-z);
+    }
+    natural(z)
+}
+
+fn show(z: i64) {
+    io::write_all(1, b" ");
+    if z < 0 {
+        io::write_all(1, b"-");
+    }
+    io::print_decimal(1, size(z) as u64);
+}
+
+fn show_short(x: u16) {
+    show(text::number_of(x as usize));
+}
+
+fn show_byte(x: u8) {
+    show(text::number_of(x as usize));
+}
+
+// An answer: its number, then what was noted beside it.
+pub(crate) fn show_answer(number: u16, noted: &[i64]) {
+    show_short(number);
+    let mut i = 0;
+    while i < noted.len() {
+        show(noted[i]);
+        i += 1;
+    }
+}
+
+// A list, with a bar before it.
+pub(crate) fn show_points(list: &[i32]) {
+    io::write_all(1, b" |");
+    let mut i = 0;
+    while i < list.len() {
+        show(space::widen(list[i]));
+        i += 1;
+    }
+}
+
+// The same of numbers of 16 bits.
+pub(crate) fn show_shorts(list: &[u16]) {
+    io::write_all(1, b" |");
+    let mut i = 0;
+    while i < list.len() {
+        show_short(list[i]);
+        i += 1;
+    }
+}
+
+// The same of bytes.
+pub(crate) fn show_bytes(list: &[u8]) {
+    io::write_all(1, b" |");
+    let mut i = 0;
+    while i < list.len() {
+        show_byte(list[i]);
+        i += 1;
+    }
+}
