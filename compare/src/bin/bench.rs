@@ -1,6 +1,6 @@
-//! Times the proved library against the plain one on the same inputs.
+//! Times the proved library against the independent judge and against plain Rust, on the same inputs.
 
-use compare::library::{Lent, Library, Room, Way};
+use compare::library::{Independent, Lent, Library, Room, Way};
 use compare::plain::Plain;
 use independent::generate::{ball_of, polygon, Rng, Tables};
 use independent::{BEGIN_ROOM, CORNER_ROOM, POINT_ROOM};
@@ -17,19 +17,19 @@ const SAMPLE: Duration = Duration::from_millis(20);
 struct Row {
     task: &'static str,
     size: usize,
-    nanoseconds: [f64; 2],
+    nanoseconds: [f64; 3],
 }
 
+/// The proved library, the literal judge, and straightforward Rust.
+type Libraries<'a> = [&'a dyn Library; 3];
+const NAMES: [&str; 3] = ["proved", "independent", "plain"];
+
 fn main() -> ExitCode {
-    let stand_in = std::env::args().any(|word| word == "--self");
-    let other = match other(stand_in) {
-        Ok(other) => other,
-        Err(message) => {
-            eprintln!("{message}");
-            return ExitCode::from(2);
-        }
+    let Some(proved) = proved() else {
+        eprintln!("built without the proved library: set SOLID_LIB_DIR");
+        return ExitCode::from(2);
     };
-    let libraries: [&dyn Library; 2] = [other.as_ref(), &Plain];
+    let libraries: Libraries = [&proved, &Independent, &Plain];
     let mut rows = Vec::new();
     let mut rng = Rng::new(7);
     for vertices in VERTICES {
@@ -46,30 +46,24 @@ fn main() -> ExitCode {
         }));
     }
     rows.sort_by_key(|row| TASKS.iter().position(|&task| task == row.task));
-    print_times(other.name(), &rows);
-    print_growth(other.name(), &rows);
+    print_times(&rows);
+    print_growth(&rows);
     ExitCode::SUCCESS
 }
 
 #[cfg(proved)]
-fn other(stand_in: bool) -> Result<Box<dyn Library>, String> {
-    if stand_in {
-        return Ok(Box::new(compare::library::Independent));
-    }
-    Ok(Box::new(compare::proved::Proved))
+fn proved() -> Option<impl Library> {
+    Some(compare::proved::Proved)
 }
 
 #[cfg(not(proved))]
-fn other(stand_in: bool) -> Result<Box<dyn Library>, String> {
-    if stand_in {
-        return Ok(Box::new(compare::library::Independent));
-    }
-    Err("built without the proved library (set SOLID_LIB_DIR), or run bench --self".into())
+fn proved() -> Option<Plain> {
+    None
 }
 
 const TASKS: [&str; 5] = ["judge", "walk", "read", "write", "outline"];
 
-fn solid_rows(libraries: &[&dyn Library; 2], vertices: usize, t: &Tables, rows: &mut Vec<Row>) {
+fn solid_rows(libraries: &Libraries, vertices: usize, t: &Tables, rows: &mut Vec<Row>) {
     let lent = Lent::from(t);
     rows.push(measure("judge", vertices, libraries, |library| {
         let mut out = [0; 3];
@@ -119,27 +113,26 @@ fn outline_of(rng: &mut Rng, count: usize) -> Vec<i32> {
     points.repeat(count / once).concat()
 }
 
-/// The median time of a call for both libraries, sampled in turn.
+/// The median time of a call for each library, sampled in turn.
 fn measure(
     task: &'static str,
     size: usize,
-    libraries: &[&dyn Library; 2],
+    libraries: &Libraries,
     mut call: impl FnMut(&dyn Library) -> (u16, i64),
 ) -> Row {
-    let expected = call(libraries[1]);
-    assert_eq!(
-        call(libraries[0]),
-        expected,
+    let answers = libraries.map(&mut call);
+    assert!(
+        answers.iter().all(|answer| *answer == answers[0]),
         "{task} {size}: the answers differ"
     );
-    let mut rounds = [1_u32; 2];
+    let mut rounds = [1_u32; 3];
     for (library, rounds) in libraries.iter().zip(&mut rounds) {
         // Doubling until a sample is long enough also warms everything up.
         while sample(*rounds, || call(*library)) < SAMPLE && *rounds < 1 << 24 {
             *rounds *= 2;
         }
     }
-    let mut samples = [Vec::new(), Vec::new()];
+    let mut samples = [const { Vec::new() }; 3];
     for _ in 0..SAMPLES {
         for (k, library) in libraries.iter().enumerate() {
             let time = sample(rounds[k], || call(*library));
@@ -165,37 +158,44 @@ fn sample(rounds: u32, mut call: impl FnMut() -> (u16, i64)) -> Duration {
     began.elapsed()
 }
 
-fn print_times(name: &str, rows: &[Row]) {
-    println!("| task | size | {name} ns | Rust ns | {name} / Rust |");
-    println!("|---|---:|---:|---:|---:|");
+fn print_times(rows: &[Row]) {
+    println!(
+        "| task | size | {} ns | proved / independent | proved / plain |",
+        NAMES.join(" ns | ")
+    );
+    println!("|---|---:|---:|---:|---:|---:|---:|");
     for row in rows {
-        let [theirs, plain] = row.nanoseconds;
+        let [proved, independent, plain] = row.nanoseconds;
         println!(
-            "| {} | {} | {theirs:.0} | {plain:.0} | {:.2} |",
+            "| {} | {} | {proved:.0} | {independent:.0} | {plain:.0} | {:.2} | {:.2} |",
             row.task,
             row.size,
-            theirs / plain
+            proved / independent,
+            proved / plain
         );
     }
 }
 
 /// By which factor, and as which power of the size, the times grow from one size to the next.
-fn print_growth(name: &str, rows: &[Row]) {
+fn print_growth(rows: &[Row]) {
     println!();
-    println!("| task | from | to | {name} grows | power | Rust grows | power |");
-    println!("|---|---:|---:|---:|---:|---:|---:|");
+    println!(
+        "| task | from | to | {} grows | power |",
+        NAMES.join(" grows | power | ")
+    );
+    println!("|---|---:|---:|---:|---:|---:|---:|---:|---:|");
     for pair in rows.windows(2).filter(|pair| pair[0].task == pair[1].task) {
         let step = (pair[1].size as f64 / pair[0].size as f64).ln();
-        let grown = [0, 1].map(|k| pair[1].nanoseconds[k] / pair[0].nanoseconds[k]);
+        let grown = [0, 1, 2].map(|k| {
+            let factor = pair[1].nanoseconds[k] / pair[0].nanoseconds[k];
+            format!(" {factor:.1} | {:.2} |", factor.ln() / step)
+        });
         println!(
-            "| {} | {} | {} | {:.1} | {:.2} | {:.1} | {:.2} |",
+            "| {} | {} | {} |{}",
             pair[0].task,
             pair[0].size,
             pair[1].size,
-            grown[0],
-            grown[0].ln() / step,
-            grown[1],
-            grown[1].ln() / step
+            grown.concat()
         );
     }
 }
