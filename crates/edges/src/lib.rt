@@ -1,10 +1,10 @@
 ghost use mathlib.Core.Path.{_≡_};
 ghost use Prim.Native.Nat.{_+_, _-_, _<_};
 ghost use lib.Dec.{eqb};
-ghost use lib.ListN.{length, replicate};
+ghost use lib.ListN.{length};
 ghost use Rattle.whole.specs.First.{anyBelow};
 ghost use Rattle.whole.specs.Count.{bit};
-ghost use Rattle.whole.specs.Filled.{Filled};
+ghost use Rattle.whole.specs.Filled.{Blank, Filled};
 ghost use Rattle.tables.specs.Tables.{mostVertices, nextIn, to};
 ghost use Rattle.tables.specs.Size.{Laid};
 ghost use Rattle.tables.specs.Places.{Named, In};
@@ -28,7 +28,7 @@ fn home_on(begins: &[u16], f: usize, p: usize) -> usize
 
 // The facet of each place of the run, in a table that is lent blank, as all of the index are: one that is returned is copied.
 fn homes(corners: &[u16], begins: &[u16], home: &mut [u16; 6144])
-    requires { ⌜ Laid (now corners) (now begins) × (now home ≡ replicate 6144 0) ⌝ }
+    requires { ⌜ Laid (now corners) (now begins) × Blank 6144 (now home) ⌝ }
     ensures { λ _. ⌜ Homes (now (corners .entry)) (now (begins .entry)) (now (home .exit)) ⌝ }
 {
     let mut f = 0;
@@ -55,7 +55,7 @@ pub fn next_in(begins: &[u16], f: usize, p: usize) -> usize
 
 // The vertex at which the edge of each place ends.
 fn fill_ends(corners: &[u16], begins: &[u16], home: &[u16; 6144], ends: &mut [u16; 6144])
-    requires { ⌜ Homes (now corners) (now begins) (now home) × (now ends ≡ replicate 6144 0) ⌝ }
+    requires { ⌜ Homes (now corners) (now begins) (now home) × Blank 6144 (now ends) ⌝ }
     ensures { λ _. ⌜ Filled 6144 (now (ends .exit)) (to (now (corners .entry)) (now (begins .entry))) (length (now (corners .entry))) ⌝ }
 {
     let mut p = 0;
@@ -68,7 +68,7 @@ fn fill_ends(corners: &[u16], begins: &[u16], home: &[u16; 6144], ends: &mut [u1
 
 // The chains of the places that leave each vertex: their heads, and the links.
 fn chains(corners: &[u16], last: &mut [u16; 1024], back: &mut [u16; 6144])
-    requires { ⌜ Named mostVertices (now corners) × (now last ≡ replicate 1024 0) × (now back ≡ replicate 6144 0) ⌝ }
+    requires { ⌜ Named mostVertices (now corners) × Blank 1024 (now last) × Blank 6144 (now back) ⌝ }
     ensures { λ _. ⌜ Chains (now (corners .entry)) (now (last .exit)) (now (back .exit)) (length (now (corners .entry))) ⌝ }
 {
     let mut p = 0;
@@ -90,7 +90,7 @@ pub fn build(
     back: &mut [u16; 6144],
 )
     requires { ⌜ Laid (now corners) (now begins) × Named mostVertices (now corners) ⌝ }
-    requires { ⌜ (now home ≡ replicate 6144 0) × (now ends ≡ replicate 6144 0) × (now last ≡ replicate 1024 0) × (now back ≡ replicate 6144 0) ⌝ }
+    requires { ⌜ Blank 6144 (now home) × Blank 6144 (now ends) × Blank 1024 (now last) × Blank 6144 (now back) ⌝ }
     ensures { λ _. ⌜ Index (now (corners .entry)) (now (begins .entry)) (now (home .exit)) (now (ends .exit)) (now (last .exit)) (now (back .exit)) ⌝ }
 {
     homes(corners, begins, home);
@@ -194,7 +194,7 @@ pub fn across(
     back: &[u16; 6144],
     across: &mut [u16; 6144],
 )
-    requires { ⌜ Leaving (now corners) (now begins) (now ends) (now last) (now back) × (now across ≡ replicate 6144 0) ⌝ }
+    requires { ⌜ Leaving (now corners) (now begins) (now ends) (now last) (now back) × Blank 6144 (now across) ⌝ }
     ensures { λ _. ⌜ Filled 6144 (now (across .exit)) (acrossOf (now (corners .entry)) (now (begins .entry))) (length (now (corners .entry))) ⌝ }
 {
     let mut p = 0;

@@ -3,16 +3,16 @@ use mathlib.Core.Path.{_≡_, sym, ap, _∙_}
 use mathlib.Core.List.{List}
 use Prim.Native.Nat.{ℕ, _<_}
 use native.Mathlib.Omega.{arith}
-use lib.ListN.{replicate}
+use Rattle.whole.specs.Filled.{Blank}
 use Rattle.tables.specs.declared.Answer.{Answer}
 use Rattle.tables.specs.Answer.{refused}
 use Rattle.edges.specs.Index.{Leaving}
 
 -- as they are lent
-pub record Blank (ends last back : List ℕ) : Type 0 where
-  pub ends-0 : ends ≡ replicate 6144 0
-  pub last-0 : last ≡ replicate 1024 0
-  pub back-0 : back ≡ replicate 6144 0
+pub record Fresh (ends last back : List ℕ) : Type 0 where
+  pub ends-0 : Blank 6144 ends
+  pub last-0 : Blank 1024 last
+  pub back-0 : Blank 6144 back
 
 -- as they are given back with an answer
 pub record Indexed (answer : Answer) (corners begins ends last back : List ℕ) : Type 0 where

@@ -4,7 +4,7 @@ ghost use Rattle.edges.specs.Across.{Across};
 ghost use Rattle.flat.specs.Facet.{Measured};
 ghost use Rattle.judge.specs.Judge.{fromBent, fromRing, fromPair, fromRepeat, judged};
 ghost use Rattle.judge.specs.Stages.{UpTo5, UpTo6, UpTo8};
-ghost use Rattle.judge.specs.Indexed.{Blank, Indexed};
+ghost use Rattle.judge.specs.Indexed.{Fresh, Indexed};
 
 // Numbers 9 to 12.
 fn from_bent(
@@ -76,7 +76,7 @@ fn from_pair(
     back: &mut [u16; 6144],
 ) -> tables::Answer
     requires { ⌜ UpTo5 (now points) (now corners) (now begins) ⌝ }
-    requires { ⌜ Blank (now ends) (now last) (now back) ⌝ }
+    requires { ⌜ Fresh (now ends) (now last) (now back) ⌝ }
     ensures { λ r. ⌜ r ≡ fromPair (now (points .entry)) (now (corners .entry)) (now (begins .entry)) ⌝ }
     ensures { λ _. ⌜ Leaving (now (corners .entry)) (now (begins .entry)) (now (ends .exit)) (now (last .exit)) (now (back .exit)) ⌝ }
 {
@@ -101,7 +101,7 @@ fn from_repeat(
     back: &mut [u16; 6144],
 ) -> tables::Answer
     requires { ⌜ Measured (now points) (now corners) (now begins) ⌝ }
-    requires { ⌜ Blank (now ends) (now last) (now back) ⌝ }
+    requires { ⌜ Fresh (now ends) (now last) (now back) ⌝ }
     ensures { λ r. ⌜ r ≡ fromRepeat (now (points .entry)) (now (corners .entry)) (now (begins .entry)) ⌝ }
     ensures { λ r. ⌜ Indexed r (now (corners .entry)) (now (begins .entry)) (now (ends .exit)) (now (last .exit)) (now (back .exit)) ⌝ }
 {
@@ -125,7 +125,7 @@ pub fn judge_with_index(
     last: &mut [u16; 1024],
     back: &mut [u16; 6144],
 ) -> tables::Answer
-    requires { ⌜ Blank (now ends) (now last) (now back) ⌝ }
+    requires { ⌜ Fresh (now ends) (now last) (now back) ⌝ }
     ensures { λ r. ⌜ r ≡ judged (now (points .entry)) (now (corners .entry)) (now (begins .entry)) ⌝ }
     ensures { λ r. ⌜ Indexed r (now (corners .entry)) (now (begins .entry)) (now (ends .exit)) (now (last .exit)) (now (back .exit)) ⌝ }
 {

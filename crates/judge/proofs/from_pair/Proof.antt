@@ -8,9 +8,9 @@ use Rattle.judge.proofs.from_pair.Tie as tie
 
 build-requires : tie.Need-build-requires
 build-requires c κs =
-    let (five, blank) = c .before .before .before .before .before .before .pre in
+    let (five, fresh) = c .before .before .before .before .before .before .pre in
     let s = five .measured .sound in
-    ((s .laid, all-named s), (refl, blank .ends-0, blank .last-0, blank .back-0))
+    ((s .laid, all-named s), (refl, fresh .ends-0, fresh .last-0, fresh .back-0))
 
 pair-requires : tie.Need-pair-requires
 pair-requires c κs =

@@ -21,8 +21,8 @@ from-pair-requires c κs =
     let t = c .before .before .before in
     let u = t .before .before in
     let r = u .before .before .before in
-    let (measured, blank) = r .before .before .before .pre in
-    (record { measured = measured; single = sym (r .repeat .ensures) ∙ u .before .enum-told .given .1; used = sym (u .unused .ensures) ∙ t .enum-told2 .given .1 }, blank)
+    let (measured, fresh) = r .before .before .before .pre in
+    (record { measured = measured; single = sym (r .repeat .ensures) ∙ u .before .enum-told .given .1; used = sym (u .unused .ensures) ∙ t .enum-told2 .given .1 }, fresh)
 
 returns-3 : tie.Need-returns-3
 returns-3 c =
