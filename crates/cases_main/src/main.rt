@@ -15,7 +15,7 @@ use tapes::tape_case;
 // Room for the longest outline of the stored cases, and for their text.
 const OUTLINE: usize = 8200;
 
-const TEXT: usize = 300000;
+const TEXT: usize = 400000;
 
 // O: the points of an outline. Where the text goes on.
 fn outline_case(text: &[u8], from: usize) -> usize {

@@ -218,31 +218,35 @@ const STAR_FACETS: [&[u16]; 10] = [
     &[0, 4, 6],
 ];
 
-fn sheet_tables() -> Vec<Tables> {
+fn sheet_solids() -> Vec<Mesh> {
     let with_point = |v: usize, point: [i32; 3]| {
         let mut points = T_POINTS;
         points[v] = point;
-        tables(&points, &T_FACETS)
+        mesh(&points, &T_FACETS)
     };
     let with_last = |last: &[u16]| {
         let mut facets = T_FACETS;
         facets[3] = last;
-        tables(&T_POINTS, &facets)
+        mesh(&T_POINTS, &facets)
     };
     let fifth = [&T_POINTS[..], &[[1, 1, 1]]].concat();
     vec![
-        tables(&T_POINTS, &T_FACETS),
-        tables(&T_POINTS, &T_FACETS[..3]),
+        mesh(&T_POINTS, &T_FACETS),
+        mesh(&T_POINTS, &T_FACETS[..3]),
         with_point(1, [8191, 0, 0]),
         with_point(1, [8192, 0, 0]),
         with_last(&[1, 2, 4]),
         with_last(&[1, 2, 2]),
-        tables(&fifth, &T_FACETS),
+        mesh(&fifth, &T_FACETS),
         with_last(&[1, 3, 2]),
         with_point(3, [0, 0, 0]),
         with_point(3, [0, 0, -1]),
-        tables(&STAR_POINTS, &STAR_FACETS),
+        mesh(&STAR_POINTS, &STAR_FACETS),
     ]
+}
+
+fn sheet_tables() -> Vec<Tables> {
+    sheet_solids().iter().map(Mesh::tables).collect()
 }
 
 /// Tables that a careless reading of the sheet gets wrong.
@@ -483,8 +487,9 @@ fn writer_cases<W: Write>(printer: &mut Printer<W>, rng: &mut Rng) -> io::Result
 
 fn program_cases<W: Write>(printer: &mut Printer<W>, rng: &mut Rng) -> io::Result<()> {
     let t = tape_of_t();
-    printer.judging(&t)?;
-    printer.judging(&tapes::of_mesh(&mesh(&STAR_POINTS, &STAR_FACETS)))?;
+    for solid in sheet_solids() {
+        printer.judging(&tapes::of_mesh(&solid))?;
+    }
     printer.judging(&t[..60])?;
     printer.judging(&[])?;
     printer.judging(&[0, 0, 0, 0, 0])?;
