@@ -243,9 +243,9 @@ fn near(
 }
 
 // Up to so many vertices the scan is no longer than the look at the neighbours, and it reads the points in order.
-const FEW: usize = 24;
+const MOST_SCANNED: usize = 24;
 
-// Number 12, OUTSIDE: its first place. Where no neighbour is outside none is, so more vertices are scanned only where one is.
+// Number 12, OUTSIDE: its first place. Where no neighbour is outside none is, so many vertices are scanned only where one is.
 pub fn outside(
     points: &[i32],
     corners: &[u16],
@@ -257,7 +257,7 @@ pub fn outside(
     requires { ⌜ Passed (now points) (now corners) (now begins) × Leaving (now corners) (now begins) (now ends) (now last) (now back) ⌝ }
     ensures { λ r. ⌜ r ≡ outside (now (points .entry)) (now (corners .entry)) (now (begins .entry)) ⌝ }
 {
-    if FEW < points.len() / 3 {
+    if MOST_SCANNED < points.len() / 3 {
         if !near(points, corners, begins, ends, last, back) {
             return tables::Found::Nothing;
         }

@@ -175,14 +175,14 @@ fn last_edge(
     0
 }
 
-// The place whose number is one less, or 0.
-fn place_before(q: usize) -> usize
-    ensures { λ r. ⌜ r ≡ q - 1 ⌝ }
+// The place that a link leads to, or 0 where it leads to none.
+fn place_of(link: usize) -> usize
+    ensures { λ r. ⌜ r ≡ link - 1 ⌝ }
 {
-    if q == 0 {
+    if link == 0 {
         return 0;
     }
-    q - 1
+    link - 1
 }
 
 // For each place the last one of the reverse of its edge.
@@ -200,7 +200,7 @@ pub fn across(
     let mut p = 0;
     while p < corners.len() {
         let q = last_edge(corners, begins, ends, last, back, ends[p], corners[p]);
-        across[p] = place_before(q) as u16;
+        across[p] = place_of(q) as u16;
         p += 1;
     }
 }

@@ -1,7 +1,6 @@
 -- Demand 2's sentence on acceptance: the judge answers 0 exactly when 1 to 3 pass and the solid is convex. Assumes nothing.
 use mathlib.Core.Path.{_≡_, refl, sym, ap, _∙_}
 use mathlib.Core.Logic.{_↔_}
-use mathlib.Core.Bool.{Bool, true, false, cond}
 use mathlib.Core.List.{List}
 use Prim.Native.Nat.{ℕ, suc, _<_}
 use native.Mathlib.Omega.{arith}
@@ -9,10 +8,9 @@ use lib.IntN.{ℤ, pos}
 use lib.Signed.{_≤ℤ_}
 use Rattle.space.specs.Points.{vertices}
 use Rattle.tables.specs.Tables.{facets, edges}
-use Rattle.tables.specs.Size.{isSize}
-use Rattle.tables.specs.Rules.{range, index, repeat, unused}
-use Rattle.tables.specs.Answer.{accepted, refused, orElse}
-use Rattle.tables.specs.InOrder.{fromRange, InOrder}
+use Rattle.tables.specs.Rules.{repeat, unused}
+use Rattle.tables.specs.Answer.{accepted, orElse}
+use Rattle.tables.specs.InOrder.{InOrder, number-0, passes as in-order}
 use Rattle.tables.specs.declared.Answer.{Answer}
 use Rattle.tables.specs.declared.Found.{Found}
 use Rattle.tables.specs.declared.Found.the-variants.{At, Nothing}
@@ -52,29 +50,24 @@ none n Nothing later e = (refl, e)
 module _ (points : List ℤ) (corners begins : List ℕ) where
   pub faultless : judged points corners begins .number ≡ 0 → Faultless points corners begins
   unfolding judged
-  faultless e = go (isSize points corners begins) refl e
-    where
-      go : (s : Bool) → isSize points corners begins ≡ s → cond s (refused 1 0 0) (fromRange points corners begins (fromRepeat points corners begins)) .number ≡ 0 → Faultless points corners begins
-      go true q e = absurd (omega arith)
-      go false q e =
-          let (a, e) = none 1 (range points) _ e in
-          let (b, e) = none 2 (index (vertices points) corners begins) _ e in
-          let (c, e) = none 3 (repeat corners begins) _ e in
-          let (d, e) = none 4 (unused (vertices points) corners) _ e in
-          let (f, e) = none 5 (pair corners begins) _ e in
-          let (g, e) = none 6 (ring (vertices points) corners begins) _ e in
-          let (h, e) = none 7 (apart corners begins) _ e in
-          let (i, e) = none 8 (bent points corners begins) _ e in
-          let (j, e) = none 9 (turn points corners begins) _ e in
-          let (k, e) = none 10 (reflex points corners begins) _ e in
-          let (l, e) = none 11 (outside points corners begins) _ e in
-          record { within = record { sizes = q; ranges = a; numbers = b }; no-4 = c; no-5 = d; no-6 = f; no-7 = g; no-8 = h; no-9 = i; no-10 = j; no-11 = k; no-12 = l }
+  faultless e =
+      let (o, e) = number-0 points corners begins (fromRepeat points corners begins) e in
+      let (c, e) = none 3 (repeat corners begins) _ e in
+      let (d, e) = none 4 (unused (vertices points) corners) _ e in
+      let (f, e) = none 5 (pair corners begins) _ e in
+      let (g, e) = none 6 (ring (vertices points) corners begins) _ e in
+      let (h, e) = none 7 (apart corners begins) _ e in
+      let (i, e) = none 8 (bent points corners begins) _ e in
+      let (j, e) = none 9 (turn points corners begins) _ e in
+      let (k, e) = none 10 (reflex points corners begins) _ e in
+      let (l, e) = none 11 (outside points corners begins) _ e in
+      record { within = o; no-4 = c; no-5 = d; no-6 = f; no-7 = g; no-8 = h; no-9 = i; no-10 = j; no-11 = k; no-12 = l }
 
   -- "accepted: V, E, F"
   pub faultless-accepted : Faultless points corners begins → judged points corners begins ≡ accepted (vertices points) (edges corners) (facets begins)
   unfolding judged
   faultless-accepted F =
-      rw (F .within .sizes, F .within .ranges, F .within .numbers, F .no-4, F .no-5, F .no-6, F .no-7, F .no-8, F .no-9, F .no-10, F .no-11, F .no-12)
+      in-order (F .within) _ ∙ rw (F .no-4, F .no-5, F .no-6, F .no-7, F .no-8, F .no-9, F .no-10, F .no-11, F .no-12)
 
   pub faultless-convex : Faultless points corners begins → Convex (tablesOf points corners begins)
   faultless-convex F =

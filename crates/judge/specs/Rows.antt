@@ -1,5 +1,5 @@
 -- The sheet's table of answer numbers: each row's number is given exactly when the row says and no number below it applies, at its first place. Assumes nothing.
-use mathlib.Core.Path.{_≡_, refl, sym, _∙_}
+use mathlib.Core.Path.{_≡_, refl}
 use mathlib.Core.Bool.{Bool, true, false, cond}
 use mathlib.Core.List.{List}
 use Prim.Native.Nat.{ℕ, _+_}
@@ -14,7 +14,7 @@ use Rattle.tables.specs.Answer.{accepted, refused, orElse}
 use Rattle.tables.specs.InOrder.{fromRange}
 use Rattle.tables.specs.declared.Answer.{Answer}
 use Rattle.tables.specs.declared.Found.{Found}
-use Rattle.tables.specs.declared.Found.the-variants.{At, Nothing}
+use Rattle.tables.specs.declared.Found.the-variants.{Nothing}
 use Rattle.edges.specs.Pair.{unpaired, pair}
 use Rattle.closed.specs.Ring.{broken, ring}
 use Rattle.closed.specs.Apart.{isApart, apart}

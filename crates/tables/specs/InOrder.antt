@@ -48,6 +48,14 @@ module _ {points : List ℤ} {corners begins : List ℕ} (o : InOrder points cor
   pub laid : Laid corners begins
   laid = sized points corners begins (o .sizes) .laid
 
+pub number-0 : (points : List ℤ) (corners begins : List ℕ) (later : Answer) → checked points corners begins later .number ≡ 0
+    → InOrder points corners begins × (later .number ≡ 0)
+number-0 points corners begins later h = by (verdict points corners begins)
+  where
+    by : Verdict points corners begins → InOrder points corners begins × (later .number ≡ 0)
+    by (in-order o) = (o, ap (λ (a : Answer). a .number) (sym (passes o later)) ∙ h)
+    by (faulty a n q) = absurd (n (ap (λ (a : Answer). a .number) (sym (q later)) ∙ h))
+
 -- what the code's answer says
 module _ (points : List ℤ) (corners begins : List ℕ) {answer : Answer} (e : answer ≡ checked points corners begins (accepted 0 0 0)) where
   pub stopped : (answer .number ≡ 0 → ⊥) → (later : Answer) → answer ≡ checked points corners begins later
@@ -58,8 +66,4 @@ module _ (points : List ℤ) (corners begins : List ℕ) {answer : Answer} (e : 
       by (faulty a n q) = e ∙ q (accepted 0 0 0) ∙ sym (q later)
 
   pub passed : answer .number ≡ 0 → InOrder points corners begins
-  passed h = by (verdict points corners begins)
-    where
-      by : Verdict points corners begins → InOrder points corners begins
-      by (in-order o) = o
-      by (faulty a n q) = absurd (n (ap (λ (a : Answer). a .number) (sym (q (accepted 0 0 0)) ∙ sym e) ∙ h))
+  passed h = number-0 points corners begins (accepted 0 0 0) (ap (λ (a : Answer). a .number) (sym e) ∙ h) .0

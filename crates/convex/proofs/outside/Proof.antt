@@ -1,5 +1,4 @@
 -- `convex::outside` meets its contract: where no neighbour is outside, no vertex is. Assumes nothing.
-use borrow.Author.Needs.{needs}
 use mathlib.Core.Path.{sym, _∙_}
 use borrow.Author.Tests.{not-true}
 use Rattle.convex.specs.Passed.{near-enough}

@@ -9,7 +9,7 @@ use Rattle.edges.specs.Index.{to-small}
 use Rattle.edges.specs.Across.{acrossOf, across-is}
 use Rattle.edges.specs.Answered.{across-below}
 use Rattle.edges.proofs.last_edge.Reads as last-edge-reads
-use Rattle.edges.proofs.place_before.Reads as place-before-reads
+use Rattle.edges.proofs.place_of.Reads as place-of-reads
 use Rattle.edges.proofs.across.Reads as reads
 use Rattle.edges.proofs.across.Lts as lts
 use Rattle.edges.proofs.across.Statement.{statement}
@@ -31,14 +31,14 @@ room : tie.Need-element-write-across Inv-loop μ-loop
 room c = omega (arith, c .before .before .before .before .before .before .before .before .pre .0 .laid .short)
 
 -- what is stored
-is : (c : lts.After-place-before (last-edge-reads.Asked, last-edge-reads.Learnt, place-before-reads.Asked, place-before-reads.Learnt) reads.Pre reads.Post Inv-loop μ-loop)
+is : (c : lts.After-place-of (last-edge-reads.Asked, last-edge-reads.Learnt, place-of-reads.Asked, place-of-reads.Learnt) reads.Pre reads.Post Inv-loop μ-loop)
     → let l = c .before .before .before .before .before in
     let a = l .before .before .before .args in
-    c .place-before .result ≡ acrossOf (a .corners .now) (a .begins .now) (l .loop .p)
+    c .place-of .result ≡ acrossOf (a .corners .now) (a .begins .now) (l .loop .p)
 is c =
     let l = c .before .before .before .before .before in
     let s = l .before .before .before in
-    c .place-before .ensures
+    c .place-of .ensures
     ∙ across-is (s .args .corners .now) (s .args .begins .now) (l .loop .p) (c .before .last-edge .ensures) (s .pre .0 .filled .at (l .loop .p) (omega arith))
 
 fits : tie.Need-cast-across Inv-loop μ-loop

@@ -1,5 +1,4 @@
 -- `edges::some_unanswered` meets its contract: the law of searches, over the places of the run. Assumes nothing.
-use borrow.Author.Needs.{needs}
 use mathlib.Core.Path.{sym, _∙_}
 use native.Mathlib.Omega.{arith}
 use Prim.Native.Nat.{_-_, _≤_}
