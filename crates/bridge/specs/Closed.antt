@@ -8,18 +8,19 @@ use lib.IntN.{ℤ}
 use lib.ListN.{length}
 use Rattle.whole.specs.Orbit.{iterate}
 use Rattle.whole.specs.Rounds.{first, arc}
-use Rattle.space.specs.Points.{vertices}
+use Rattle.points.specs.Points.{vertices}
 use Rattle.tables.specs.Tables.{begin, homeOf, nextOf, from, to}
 use Rattle.tables.specs.Places.{Sound, Single, next-below, next-home}
-use Rattle.tables.specs.Rules.{repeat, unused}
+use Rattle.names.specs.Rules.{repeat, unused}
 use Rattle.tables.specs.Found.{nowhere-is}
 use Rattle.tables.specs.declared.Found.the-variants.{Nothing}
-use Rattle.edges.specs.Pair.{pair, Paired, pair-none}
-use Rattle.edges.specs.Across.{acrossOf, across, edge-once, Matched, paired-if, means-pair}
-use Rattle.closed.specs.Lower.{repeat-single, single-repeat, Used, unused-used, used-unused}
-use Rattle.closed.specs.Step.{stepOf, step-below, step-leaves, step-home}
-use Rattle.closed.specs.Ring.{ring, Stepped, OneRing, ring-means, ring-from}
-use Rattle.closed.specs.Apart.{beyond, apart, Reached, apart-means, means-apart}
+use Rattle.pair.specs.Pair.{pair, Paired, pair-none}
+use Rattle.edges.specs.Edge.{acrossOf}
+use Rattle.pair.specs.Across.{across, edge-once, Matched, paired-if, means-pair}
+use Rattle.bridge.specs.Lower.{repeat-single, single-repeat, Used, unused-used, used-unused}
+use Rattle.ring.specs.Step.{stepOf, step-below, step-leaves, step-home}
+use Rattle.ring.specs.Ring.{ring, Stepped, OneRing, ring-means, ring-from}
+use Rattle.apart.specs.Apart.{beyond, apart, Reached, apart-means, means-apart}
 use Rattle.solid.specs.Reach.{Around, here, step, Ring, Linked, self, link}
 use Rattle.solid.specs.Tables.{Tables, Place, Corner, Edge, Closed, next}
 use Rattle.bridge.specs.Surface.{tablesOf, Names, Runs, place-names, place-runs, names-place, corner-names, names-corner, edge-runs, runs-edge}

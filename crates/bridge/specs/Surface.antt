@@ -6,11 +6,11 @@ use Prim.Native.Nat.{ℕ, _+_, _-_, _<_}
 use native.Mathlib.Omega.{arith}
 use lib.IntN.{ℤ}
 use lib.ListN.{length}
-use Rattle.space.specs.Points.{vertices, point}
+use Rattle.points.specs.Points.{vertices, point}
 use Rattle.tables.specs.Tables.{facets, begin, sides, cornerOf, homeOf, nextOf, from, to}
 use Rattle.tables.specs.Size.{Laid}
 use Rattle.tables.specs.Places.{Sound, home-is, next-up, next-wrap, sides-some, corner-at, place-in, place-below}
-use Rattle.edges.specs.Flat.{position}
+use Rattle.pair.specs.Flat.{position}
 use Rattle.solid.specs.Tables.{Tables, Place, Corner, Edge, Sized, after, next}
 use Rattle.solid.specs.Circuit.{after-cases, after-lt}
 

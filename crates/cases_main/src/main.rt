@@ -31,7 +31,7 @@ fn outline_case(text: &[u8], from: usize) -> usize {
 
 // Runs the case that begins with the next word. Where the text goes on.
 fn case(text: &[u8], at: usize) -> usize {
-    let part = text::next(text, &text::BLANKS, at);
+    let part = words::next(text, &words::BLANKS, at);
     let start = part.start;
     if start < text.len() {
         let letter = text[start];

@@ -68,7 +68,7 @@ fn signed(z: i64) -> i32 {
 
 // The number at the place where the text goes on, which moves past it; 0 at the text's end.
 fn next(text: &[u8], at: &mut usize) -> i64 {
-    let part = text::next(text, &text::BLANKS, *at);
+    let part = words::next(text, &words::BLANKS, *at);
     let start = part.start;
     let end = part.end;
     *at = end;

@@ -24,11 +24,11 @@ fn show(z: i64) {
 }
 
 fn show_short(x: u16) {
-    show(text::number_of(x as usize));
+    show(lines::number_of(x as usize));
 }
 
 fn show_byte(x: u8) {
-    show(text::number_of(x as usize));
+    show(lines::number_of(x as usize));
 }
 
 // An answer: its number, then what was noted beside it.
@@ -46,7 +46,7 @@ pub(crate) fn show_points(list: &[i32]) {
     io::write_all(1, b" |");
     let mut i = 0;
     while i < list.len() {
-        show(space::widen(list[i]));
+        show(points::widen(list[i]));
         i += 1;
     }
 }

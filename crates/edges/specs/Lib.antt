@@ -1,10 +1,6 @@
--- The index of the edges, number 6, PAIR, and the reverse of each edge.
+-- The index of the edges: of each place of the run its facet, where its edge ends, the place across and the link to the place before in its chain.
 pub mod Homes
 pub mod Chains
 pub mod Listed
 pub mod Index
-pub mod Flat
-pub mod Pair
-pub mod Across
-pub mod Answered
-pub mod Neighbours
+pub mod Edge

@@ -1,24 +1,12 @@
--- What the functions for Rust and C leave in `out`: numbers from entry 0 on where it is long enough, else nothing.
-use mathlib.Core.Path.{_≡_, refl}
-use mathlib.Core.Bool.{cond}
+-- What the functions for Rust and C leave in `out`.
 use mathlib.Core.List.{List, [], _∷_}
-use Prim.Native.Nat.{ℕ}
-use lib.Dec.{ltb}
 use lib.IntN.{ℤ}
-use lib.ListN.{length}
-use Rattle.tables.specs.declared.Answer.{Answer}
+use Rattle.answers.specs.declared.Answer.{Answer}
 use Rattle.reader.specs.declared.Reading.{Reading}
 use Rattle.outline.specs.declared.Verdict.{Verdict}
 use Rattle.walk.specs.declared.Walked.{Walked}
-use Rattle.tape.specs.Over.{over}
-use Rattle.text.specs.Line.{numberOf}
-
-unfoldable pub noted : List ℤ → List ℤ → List ℤ
-noted numbers out = cond (ltb (length out) (length numbers)) out (over numbers out)
-
--- places as numbers
-abbrev pub three : ℕ → ℕ → ℕ → List ℤ
-three first second third = numberOf first ∷ numberOf second ∷ numberOf third ∷ []
+use Rattle.lines.specs.Line.{numberOf}
+use Rattle.out.specs.Noted.{three}
 
 abbrev pub places : Answer → List ℤ
 places a = three (a .first) (a .second) (a .third)

@@ -1,37 +1,13 @@
+// The functions for Rust and C: numbers and slices only.
 ghost use mathlib.Core.Path.{_≡_};
 ghost use Rattle.judge.specs.Judge.{judged};
 ghost use Rattle.outline.specs.Outline.{judgedOutline};
 ghost use Rattle.reader.specs.Answer.{reading, pointsAfter, cornersAfter, beginsAfter};
 ghost use Rattle.writer.specs.Answer.{written, bufferAfter};
-ghost use Rattle.walk.specs.Direction.{direction};
+ghost use Rattle.direction.specs.Direction.{direction};
 ghost use Rattle.walk.specs.Walk.{walked, trailAfter};
-ghost use Rattle.exports.specs.Out.{noted, three, places, course, counts, place};
-
-// Puts numbers at the beginning of `out` where it is long enough, else leaves it.
-fn note(out: &mut [i64], numbers: &[i64])
-    ensures { λ _. ⌜ now (out .exit) ≡ noted (now (numbers .entry)) (now (out .entry)) ⌝ }
-{
-    if out.len() < numbers.len() {
-        return;
-    }
-    let mut i = 0;
-    while i < numbers.len() {
-        out[i] = numbers[i];
-        i += 1;
-    }
-}
-
-// The same of three places.
-fn note_places(out: &mut [i64], first: usize, second: usize, third: usize)
-    ensures { λ _. ⌜ now (out .exit) ≡ noted (three first second third) (now (out .entry)) ⌝ }
-{
-    let numbers = [
-        text::number_of(first),
-        text::number_of(second),
-        text::number_of(third),
-    ];
-    note(out, &numbers);
-}
+ghost use Rattle.out.specs.Noted.{noted};
+ghost use Rattle.exports.specs.Out.{places, course, counts, place};
 
 // The judge of a solid. `out` gets the three places, and the number is returned.
 #[no_mangle]
@@ -45,7 +21,7 @@ pub extern "C" fn solid_judge(
     ensures { λ _. ⌜ now (out .exit) ≡ noted (places (judged (now (points .entry)) (now (corners .entry)) (now (begins .entry)))) (now (out .entry)) ⌝ }
 {
     let answer = judge::judge(points, corners, begins);
-    note_places(out, answer.first, answer.second, answer.third);
+    out::note_places(out, answer.first, answer.second, answer.third);
     answer.number
 }
 
@@ -66,18 +42,18 @@ pub extern "C" fn solid_walk(
     ensures { λ _. ⌜ now (trail .exit) ≡ trailAfter (now (points .entry)) (now (corners .entry)) (now (begins .entry)) (direction dx dy dz) start (now (trail .entry)) ⌝ }
     ensures { λ _. ⌜ now (out .exit) ≡ noted (course (walked (now (points .entry)) (now (corners .entry)) (now (begins .entry)) (direction dx dy dz) start (now (trail .entry)))) (now (out .entry)) ⌝ }
 {
-    let direction = walk::Direction::new(dx, dy, dz);
+    let direction = direction::Direction::new(dx, dy, dz);
     let walked = walk::walk(points, corners, begins, direction, start as usize, trail);
     let answer = walked.answer;
     let numbers = [
-        text::number_of(answer.first),
-        text::number_of(answer.second),
-        text::number_of(answer.third),
-        text::number_of(tables::wide(walked.vertex)),
+        lines::number_of(answer.first),
+        lines::number_of(answer.second),
+        lines::number_of(answer.third),
+        lines::number_of(tables::wide(walked.vertex)),
         walked.height,
-        text::number_of(walked.moves),
+        lines::number_of(walked.moves),
     ];
-    note(out, &numbers);
+    out::note(out, &numbers);
     answer.number
 }
 
@@ -88,8 +64,8 @@ pub extern "C" fn solid_outline(points: &[i32], out: &mut [i64]) -> u16
     ensures { λ _. ⌜ now (out .exit) ≡ noted (place (judgedOutline (now (points .entry)))) (now (out .entry)) ⌝ }
 {
     let verdict = outline::judge_outline(points);
-    let numbers = [text::number_of(verdict.place)];
-    note(out, &numbers);
+    let numbers = [lines::number_of(verdict.place)];
+    out::note(out, &numbers);
     verdict.number
 }
 
@@ -109,7 +85,7 @@ pub extern "C" fn solid_read_tape(
     ensures { λ _. ⌜ now (out .exit) ≡ noted (counts (reading (now (tape .entry)) (now (points .entry)) (now (corners .entry)) (now (begins .entry)))) (now (out .entry)) ⌝ }
 {
     let reading = reader::read_tape(tape, points, corners, begins);
-    note_places(out, reading.first, reading.second, reading.third);
+    out::note_places(out, reading.first, reading.second, reading.third);
     reading.number
 }
 
@@ -127,6 +103,6 @@ pub extern "C" fn solid_write_tape(
     ensures { λ _. ⌜ now (out .exit) ≡ noted (places (written (now (points .entry)) (now (corners .entry)) (now (begins .entry)) (now (buffer .entry)))) (now (out .entry)) ⌝ }
 {
     let wrote = writer::write_tape(points, corners, begins, buffer);
-    note_places(out, wrote.first, wrote.second, wrote.third);
+    out::note_places(out, wrote.first, wrote.second, wrote.third);
     wrote.number
 }

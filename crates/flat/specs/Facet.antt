@@ -4,7 +4,7 @@ use Prim.Native.Nat.{ℕ, _≤_, _<_}
 use native.Mathlib.Omega.{arith}
 use lib.IntN.{ℤ}
 use lib.ListN.{length, getD}
-use Rattle.space.specs.Points.{vertices, Ranged, Vertex}
+use Rattle.points.specs.Points.{vertices, Ranged, Vertex}
 use Rattle.tables.specs.Tables.{facets, sides, facetOf}
 use Rattle.tables.specs.Places.{Sound, part-length, sides-some, sides-few, corner-at, place-below}
 

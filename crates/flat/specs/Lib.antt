@@ -1,3 +1,3 @@
--- A facet's part of the run, and numbers 9 and 10.
+-- A facet's plane, and number 9, BENT.
 pub mod Facet
 pub mod Rules

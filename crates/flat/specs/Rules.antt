@@ -1,4 +1,4 @@
--- Numbers 9 and 10, BENT and TURN, each by its row of the sheet's table. A facet is its part of the run.
+-- Number 9, BENT, by its row of the sheet's table. A facet is its part of the run.
 use mathlib.Core.Path.{_≡_, refl, _∙_, ap}
 use mathlib.Core.Bool.{Bool, true, false, cond, not}
 use mathlib.Core.List.{List}
@@ -8,20 +8,15 @@ use borrow.Author.Tests.{le-ltb, ne-eqb}
 use lib.Dec.{eqb, ltb}
 use lib.IntN.{ℤ}
 use lib.ListN.{length, getD}
-use Rattle.whole.specs.First.{firstBelow, anyBelow, None, none-0, none-more, found}
-use Rattle.space.specs.Points.{sideOf, normalOf, inLine, isLeft}
-use Rattle.space.specs.declared.Side.{Side}
-use Rattle.space.specs.Sides.{isOn}
-use Rattle.tables.specs.Tables.{nextPosition}
+use Rattle.whole.specs.First.{firstBelow, None, none-0, none-more, found}
+use Rattle.sides.specs.Sides.{sideOf, inLine, isOn}
+use Rattle.sides.specs.declared.Side.{Side}
 use Rattle.tables.specs.Facets.{inFacets}
 use Rattle.tables.specs.declared.Found.{Found}
 
 -- "A facet's plane comes from its first three corners a, b, c"
 abbrev pub sideAt : List ℤ → List ℕ → ℕ → Side
 sideAt points part v = sideOf points (getD part 0 0) (getD part 1 0) (getD part 2 0) v
-
-abbrev pub normalIn : List ℤ → List ℕ → List ℤ
-normalIn points part = normalOf points (getD part 0 0) (getD part 1 0) (getD part 2 0)
 
 -- "first three corners in line (position 2), or a later corner off the plane"
 unfoldable pub isBent : List ℤ → List ℕ → ℕ → Bool
@@ -31,17 +26,6 @@ isBent points part p =
 
 abbrev pub bent : List ℤ → List ℕ → List ℕ → Found
 bent points corners begins = inFacets corners begins (isBent points)
-
--- "for edge a to b, a corner c other than a, b has n·((b-a)×(c-a)) not above 0"
-abbrev pub strays : List ℤ → List ℤ → ℕ → ℕ → ℕ → Bool
-strays points n a b c = cond (eqb c a) false (cond (eqb c b) false (not (isLeft points n a b c)))
-
-unfoldable pub isTurn : List ℤ → List ℕ → ℕ → Bool
-isTurn points part p =
-    anyBelow (λ q. strays points (normalIn points part) (getD part p 0) (getD part (nextPosition (length part) p) 0) (getD part q 0)) (length part)
-
-abbrev pub turn : List ℤ → List ℕ → List ℕ → Found
-turn points corners begins = inFacets corners begins (isTurn points)
 
 -- ---- BENT at each position
 

@@ -1,20 +1,18 @@
+// A facet's plane, and number 9, BENT.
 ghost use mathlib.Core.Path.{_≡_};
 ghost use Prim.Native.Nat.{_<_};
-ghost use lib.ListN.{length, getD};
-ghost use Rattle.whole.specs.First.{firstBelow, anyBelow};
-ghost use Rattle.space.specs.Points.{Ranged, Vertex};
-ghost use Rattle.space.specs.Rows.{Row, widest};
-ghost use Rattle.space.specs.Sides.{isOn};
-ghost use Rattle.tables.specs.Tables.{nextPosition};
+ghost use lib.ListN.{length};
+ghost use Rattle.whole.specs.First.{firstBelow};
+ghost use Rattle.points.specs.Points.{Vertex};
 ghost use Rattle.flat.specs.Facet.{Facet, Measured};
-ghost use Rattle.flat.specs.Rules.{sideAt, normalIn, isBent, bent, strays, isTurn, turn};
+ghost use Rattle.flat.specs.Rules.{sideAt, isBent, bent};
 
 // The side of a facet's plane that vertex v is on.
-pub fn side_at(points: &[i32], part: &[u16], v: u16) -> space::Side
+pub fn side_at(points: &[i32], part: &[u16], v: u16) -> sides::Side
     requires { ⌜ Facet (now points) (now part) × Vertex (now points) v ⌝ }
     ensures { λ r. ⌜ r ≡ sideAt (now (points .entry)) (now (part .entry)) v ⌝ }
 {
-    space::side_of(points, part[0], part[1], part[2], v)
+    sides::side_of(points, part[0], part[1], part[2], v)
 }
 
 // The first position of a facet at which BENT applies, or its number of sides.
@@ -22,12 +20,12 @@ fn first_bent(points: &[i32], part: &[u16]) -> usize
     requires { ⌜ Facet (now points) (now part) ⌝ }
     ensures { λ r. ⌜ r ≡ firstBelow (isBent (now (points .entry)) (now (part .entry))) (length (now (part .entry))) ⌝ }
 {
-    if space::in_line(points, part[0], part[1], part[2]) {
+    if sides::in_line(points, part[0], part[1], part[2]) {
         return 2;
     }
     let mut p = 3;
     while p < part.len() {
-        if !space::is_on(side_at(points, part, part[p])) {
+        if !sides::is_on(side_at(points, part, part[p])) {
             return p;
         }
         p += 1;
@@ -45,71 +43,6 @@ pub fn bent(points: &[i32], corners: &[u16], begins: &[u16]) -> tables::Found
     while f < m {
         let part = tables::part(corners, begins, f);
         let p = first_bent(points, part);
-        if p < part.len() {
-            return tables::Found::At(f, p);
-        }
-        f += 1;
-    }
-    tables::Found::Nothing
-}
-
-// Whether corner c, other than a and b, is not strictly left of the edge from a to b.
-fn strays(points: &[i32], n: [i64; 3], a: u16, b: u16, c: u16) -> bool
-    requires { ⌜ Ranged (now points) × Row widest n ⌝ }
-    requires { ⌜ Vertex (now points) a × Vertex (now points) b × Vertex (now points) c ⌝ }
-    ensures { λ r. ⌜ r ≡ strays (now (points .entry)) n a b c ⌝ }
-{
-    if c == a {
-        return false;
-    }
-    if c == b {
-        return false;
-    }
-    !space::is_left(points, n, a, b, c)
-}
-
-// Whether some corner of a facet strays from the edge from a to b.
-fn some_stray(points: &[i32], part: &[u16], n: [i64; 3], a: u16, b: u16) -> bool
-    requires { ⌜ Facet (now points) (now part) × Row widest n × Vertex (now points) a × Vertex (now points) b ⌝ }
-    ensures { λ r. ⌜ r ≡ anyBelow (λ q. strays (now (points .entry)) n a b (getD (now (part .entry)) q 0)) (length (now (part .entry))) ⌝ }
-{
-    let mut q = 0;
-    while q < part.len() {
-        if strays(points, n, a, b, part[q]) {
-            return true;
-        }
-        q += 1;
-    }
-    false
-}
-
-// The first position of a facet at which TURN applies, or its number of sides.
-fn first_turn(points: &[i32], part: &[u16]) -> usize
-    requires { ⌜ Facet (now points) (now part) ⌝ }
-    ensures { λ r. ⌜ r ≡ firstBelow (isTurn (now (points .entry)) (now (part .entry))) (length (now (part .entry))) ⌝ }
-{
-    let n = space::normal(points, part[0], part[1], part[2]);
-    let mut p = 0;
-    while p < part.len() {
-        let on = tables::next_position(part.len(), p);
-        if some_stray(points, part, n, part[p], part[on]) {
-            return p;
-        }
-        p += 1;
-    }
-    p
-}
-
-// Number 10, TURN: its first place.
-pub fn turn(points: &[i32], corners: &[u16], begins: &[u16]) -> tables::Found
-    requires { ⌜ Measured (now points) (now corners) (now begins) ⌝ }
-    ensures { λ r. ⌜ r ≡ turn (now (points .entry)) (now (corners .entry)) (now (begins .entry)) ⌝ }
-{
-    let m = begins.len() - 1;
-    let mut f = 0;
-    while f < m {
-        let part = tables::part(corners, begins, f);
-        let p = first_turn(points, part);
         if p < part.len() {
             return tables::Found::At(f, p);
         }

@@ -4,8 +4,8 @@ use mathlib.Core.List.{List}
 use Prim.Native.Nat.{ℕ, _<_}
 use native.Mathlib.Omega.{arith}
 use Rattle.whole.specs.Filled.{Blank}
-use Rattle.tables.specs.declared.Answer.{Answer}
-use Rattle.tables.specs.Answer.{refused}
+use Rattle.answers.specs.declared.Answer.{Answer}
+use Rattle.answers.specs.Answer.{refused}
 use Rattle.edges.specs.Index.{Leaving}
 
 -- as they are lent

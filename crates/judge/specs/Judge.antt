@@ -2,17 +2,19 @@
 use mathlib.Core.List.{List}
 use Prim.Native.Nat.{ℕ}
 use lib.IntN.{ℤ}
-use Rattle.space.specs.Points.{vertices}
+use Rattle.points.specs.Points.{vertices}
 use Rattle.tables.specs.Tables.{facets, edges}
-use Rattle.tables.specs.Rules.{repeat, unused}
-use Rattle.tables.specs.Answer.{accepted, orElse}
-use Rattle.tables.specs.InOrder.{checked}
-use Rattle.tables.specs.declared.Answer.{Answer}
-use Rattle.edges.specs.Pair.{pair}
-use Rattle.closed.specs.Ring.{ring}
-use Rattle.closed.specs.Apart.{apart}
-use Rattle.flat.specs.Rules.{bent, turn}
-use Rattle.convex.specs.Rules.{reflex, outside}
+use Rattle.names.specs.Rules.{repeat, unused}
+use Rattle.answers.specs.Answer.{accepted, orElse}
+use Rattle.limits.specs.InOrder.{checked}
+use Rattle.answers.specs.declared.Answer.{Answer}
+use Rattle.pair.specs.Pair.{pair}
+use Rattle.ring.specs.Ring.{ring}
+use Rattle.apart.specs.Apart.{apart}
+use Rattle.flat.specs.Rules.{bent}
+use Rattle.turn.specs.Rules.{turn}
+use Rattle.reflex.specs.Rules.{reflex}
+use Rattle.outside.specs.Rules.{outside}
 
 -- "The lowest number that applies anywhere in the tables wins. Within it, the first place wins"; "accepted: none below applies: V, E, F"
 abbrev pub fromBent : List ℤ → List ℕ → List ℕ → Answer

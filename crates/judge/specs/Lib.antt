@@ -2,5 +2,3 @@
 pub mod Judge
 pub mod Stages
 pub mod Indexed
-pub mod Meaning
-pub mod Rows

@@ -3,20 +3,22 @@ use mathlib.Core.Path.{_≡_}
 use mathlib.Core.List.{List}
 use Prim.Native.Nat.{ℕ}
 use lib.IntN.{ℤ}
-use Rattle.space.specs.Points.{vertices}
-use Rattle.tables.specs.Rules.{repeat, unused, in-limits}
-use Rattle.tables.specs.InOrder.{InOrder}
+use Rattle.points.specs.Points.{vertices}
+use Rattle.names.specs.Rules.{repeat, unused}
+use Rattle.limits.specs.Rules.{in-limits}
+use Rattle.limits.specs.InOrder.{InOrder}
 use Rattle.tables.specs.declared.Found.the-variants.{Nothing}
-use Rattle.edges.specs.Pair.{pair, pair-none}
-use Rattle.closed.specs.Ring.{ring}
-use Rattle.closed.specs.Apart.{apart}
+use Rattle.pair.specs.Pair.{pair, pair-none}
+use Rattle.ring.specs.Ring.{ring}
+use Rattle.apart.specs.Apart.{apart}
 use Rattle.flat.specs.Facet.{Measured}
-use Rattle.flat.specs.Rules.{bent, turn}
-use Rattle.convex.specs.Rules.{reflex}
-use Rattle.convex.specs.Meaning.{flat, no-reflex}
-use Rattle.convex.specs.Passed.{Passed}
+use Rattle.flat.specs.Rules.{bent}
+use Rattle.turn.specs.Rules.{turn}
+use Rattle.reflex.specs.Rules.{reflex}
+use Rattle.outside.specs.Meaning.{flat, no-reflex}
+use Rattle.outside.specs.Passed.{Passed}
 use Rattle.solid.specs.Tables.{Closed}
-use Rattle.closed.specs.Lower.{all-sound}
+use Rattle.bridge.specs.Lower.{all-sound}
 use Rattle.bridge.specs.Surface.{tablesOf}
 use Rattle.bridge.specs.Closed.{is-closed}
 

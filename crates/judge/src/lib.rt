@@ -1,6 +1,6 @@
 ghost use mathlib.Core.Path.{_≡_};
 ghost use Rattle.edges.specs.Index.{Leaving, Index};
-ghost use Rattle.edges.specs.Across.{Across};
+ghost use Rattle.pair.specs.Across.{Across};
 ghost use Rattle.flat.specs.Facet.{Measured};
 ghost use Rattle.judge.specs.Judge.{fromBent, fromRing, fromPair, fromRepeat, judged};
 ghost use Rattle.judge.specs.Stages.{UpTo5, UpTo6, UpTo8};
@@ -16,28 +16,28 @@ fn from_bent(
     last: &[u16; 1024],
     back: &[u16; 6144],
     across: &[u16; 6144],
-) -> tables::Answer
+) -> answers::Answer
     requires { ⌜ UpTo8 (now points) (now corners) (now begins) ⌝ }
     requires { ⌜ Index (now corners) (now begins) (now home) (now ends) (now last) (now back) × Across (now corners) (now begins) (now across) ⌝ }
     ensures { λ r. ⌜ r ≡ fromBent (now (points .entry)) (now (corners .entry)) (now (begins .entry)) ⌝ }
 {
     let bent = flat::bent(points, corners, begins);
     if let tables::Found::At(f, p) = bent {
-        return tables::Answer::refused(9, f, p);
+        return answers::Answer::refused(9, f, p);
     }
-    let turn = flat::turn(points, corners, begins);
+    let turn = turn::turn(points, corners, begins);
     if let tables::Found::At(f, p) = turn {
-        return tables::Answer::refused(10, f, p);
+        return answers::Answer::refused(10, f, p);
     }
-    let reflex = convex::reflex(points, corners, begins, home, across);
+    let reflex = reflex::reflex(points, corners, begins, home, across);
     if let tables::Found::At(f, p) = reflex {
-        return tables::Answer::refused(11, f, p);
+        return answers::Answer::refused(11, f, p);
     }
-    let outside = convex::outside(points, corners, begins, ends, last, back);
+    let outside = outside::outside(points, corners, begins, ends, last, back);
     if let tables::Found::At(f, v) = outside {
-        return tables::Answer::refused(12, f, v);
+        return answers::Answer::refused(12, f, v);
     }
-    tables::Answer::accepted(points.len() / 3, corners.len() / 2, begins.len() - 1)
+    answers::Answer::accepted(points.len() / 3, corners.len() / 2, begins.len() - 1)
 }
 
 // Numbers 7 to 12.
@@ -50,18 +50,18 @@ fn from_ring(
     last: &[u16; 1024],
     back: &[u16; 6144],
     across: &[u16; 6144],
-) -> tables::Answer
+) -> answers::Answer
     requires { ⌜ UpTo6 (now points) (now corners) (now begins) ⌝ }
     requires { ⌜ Index (now corners) (now begins) (now home) (now ends) (now last) (now back) × Across (now corners) (now begins) (now across) ⌝ }
     ensures { λ r. ⌜ r ≡ fromRing (now (points .entry)) (now (corners .entry)) (now (begins .entry)) ⌝ }
 {
-    let ring = closed::ring(corners, begins, home, last, back, across, points.len() / 3);
+    let ring = ring::ring(corners, begins, home, last, back, across, points.len() / 3);
     if let tables::Found::At(v, z) = ring {
-        return tables::Answer::refused(7, v, z);
+        return answers::Answer::refused(7, v, z);
     }
-    let apart = closed::apart(corners, begins, home, across);
+    let apart = apart::apart(corners, begins, home, across);
     if let tables::Found::At(f, z) = apart {
-        return tables::Answer::refused(8, f, z);
+        return answers::Answer::refused(8, f, z);
     }
     from_bent(points, corners, begins, home, ends, last, back, across)
 }
@@ -74,7 +74,7 @@ fn from_pair(
     ends: &mut [u16; 6144],
     last: &mut [u16; 1024],
     back: &mut [u16; 6144],
-) -> tables::Answer
+) -> answers::Answer
     requires { ⌜ UpTo5 (now points) (now corners) (now begins) ⌝ }
     requires { ⌜ Fresh (now ends) (now last) (now back) ⌝ }
     ensures { λ r. ⌜ r ≡ fromPair (now (points .entry)) (now (corners .entry)) (now (begins .entry)) ⌝ }
@@ -84,9 +84,9 @@ fn from_pair(
     edges::build(corners, begins, &mut home, ends, last, back);
     let mut across = [0u16; 6144];
     edges::across(corners, begins, ends, last, back, &mut across);
-    let pair = edges::pair(corners, begins, &home, ends, last, back, &across);
+    let pair = pair::pair(corners, begins, &home, ends, last, back, &across);
     if let tables::Found::At(f, p) = pair {
-        return tables::Answer::refused(6, f, p);
+        return answers::Answer::refused(6, f, p);
     }
     from_ring(points, corners, begins, &home, ends, last, back, &across)
 }
@@ -99,19 +99,19 @@ fn from_repeat(
     ends: &mut [u16; 6144],
     last: &mut [u16; 1024],
     back: &mut [u16; 6144],
-) -> tables::Answer
+) -> answers::Answer
     requires { ⌜ Measured (now points) (now corners) (now begins) ⌝ }
     requires { ⌜ Fresh (now ends) (now last) (now back) ⌝ }
     ensures { λ r. ⌜ r ≡ fromRepeat (now (points .entry)) (now (corners .entry)) (now (begins .entry)) ⌝ }
     ensures { λ r. ⌜ Indexed r (now (corners .entry)) (now (begins .entry)) (now (ends .exit)) (now (last .exit)) (now (back .exit)) ⌝ }
 {
-    let repeat = tables::repeat(corners, begins);
+    let repeat = names::repeat(corners, begins);
     if let tables::Found::At(f, p) = repeat {
-        return tables::Answer::refused(4, f, p);
+        return answers::Answer::refused(4, f, p);
     }
-    let unused = tables::unused(corners, points.len() / 3);
+    let unused = names::unused(corners, points.len() / 3);
     if let tables::Found::At(v, z) = unused {
-        return tables::Answer::refused(5, v, z);
+        return answers::Answer::refused(5, v, z);
     }
     from_pair(points, corners, begins, ends, last, back)
 }
@@ -124,12 +124,12 @@ pub fn judge_with_index(
     ends: &mut [u16; 6144],
     last: &mut [u16; 1024],
     back: &mut [u16; 6144],
-) -> tables::Answer
+) -> answers::Answer
     requires { ⌜ Fresh (now ends) (now last) (now back) ⌝ }
     ensures { λ r. ⌜ r ≡ judged (now (points .entry)) (now (corners .entry)) (now (begins .entry)) ⌝ }
     ensures { λ r. ⌜ Indexed r (now (corners .entry)) (now (begins .entry)) (now (ends .exit)) (now (last .exit)) (now (back .exit)) ⌝ }
 {
-    let early = tables::check(points, corners, begins);
+    let early = limits::check(points, corners, begins);
     if early.number != 0 {
         return early;
     }
@@ -137,7 +137,7 @@ pub fn judge_with_index(
 }
 
 // The judge of a solid: its one answer to the three lent tables, which are only read.
-pub fn judge(points: &[i32], corners: &[u16], begins: &[u16]) -> tables::Answer
+pub fn judge(points: &[i32], corners: &[u16], begins: &[u16]) -> answers::Answer
     ensures { λ r. ⌜ r ≡ judged (now (points .entry)) (now (corners .entry)) (now (begins .entry)) ⌝ }
 {
     let mut ends = [0u16; 6144];

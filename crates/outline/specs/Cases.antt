@@ -4,7 +4,7 @@ use mathlib.Core.List.{List, [], _∷_}
 use lib.IntN.{ℤ, pos, negsuc}
 use Rattle.whole.specs.First.{firstBelow}
 use Rattle.space.specs.Plane.{det}
-use Rattle.space.specs.Range.{isOut}
+use Rattle.points.specs.Range.{isOut}
 use Rattle.outline.specs.Outline.{coordOf, before, after, few, isGreater, verdict, judgedTurns, judgedOutline}
 
 -- (0,0), (2,0), (2,2), (0,2)

@@ -8,7 +8,7 @@ use Rattle.whole.specs.Order.{_≼_, _≺_, _≃_, _⇒_, _since_, hyp, lit, by
 use Rattle.whole.specs.Bounds.{_within_, within-low, within-high}
 use Rattle.whole.specs.Formula.{exprs}
 use Rattle.space.specs.Plane.{Vec, vec, det, detᵒ, prove²}
-use Rattle.space.specs.Range.{limit}
+use Rattle.points.specs.Range.{limit}
 use Rattle.outline.specs.Outline.{isGreater}
 
 -- 16,383 down for 1 to the right: what lies farther left of it is greater by x, and by y where x is equal

@@ -10,7 +10,7 @@ use lib.IntN.{ℤ, pos}
 use lib.ListN.{length, getD}
 use borrow.Author.Tests.{ltb-false, eqb-true, not-false, le-ltb, eq-eqb}
 use Rattle.whole.specs.Count.{neither}
-use Rattle.space.specs.Range.{isOut, InRange, not-out, all-in}
+use Rattle.points.specs.Range.{isOut, InRange, not-out, all-in}
 use Rattle.outline.specs.Outline.{count, coordOf, few, outOfRange, Counted}
 
 pub counted : (points : List ℤ) → few (length points) ≡ false → Counted points

@@ -11,7 +11,7 @@ use lib.Signed.{ltZ, _<ℤ_}
 use Rattle.whole.specs.First.{pickBelow}
 use Rattle.outline.specs.Second.{again}
 use Rattle.space.specs.Plane.{Vec, vec, sub, det}
-use Rattle.space.specs.Range.{isOut, InRange}
+use Rattle.points.specs.Range.{isOut, InRange}
 use Rattle.outline.specs.declared.Verdict.{Verdict}
 
 -- ---- the points

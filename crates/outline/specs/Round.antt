@@ -15,7 +15,7 @@ use Rattle.whole.specs.Bounds.{_within_}
 use Rattle.whole.specs.First.{firstBelow, never, first-holds}
 use Rattle.whole.specs.Count.{both}
 use Rattle.space.specs.Plane.{Vec, det}
-use Rattle.space.specs.Range.{limit, InRange}
+use Rattle.points.specs.Range.{limit, InRange}
 use Rattle.outline.specs.Outline.{count, point, coordOf, before, after, isLeft, left, isGreater, far, Limits, LocallyConvex, LeftOf, AllLeft}
 use Rattle.outline.specs.Greater.{down, greater, level}
 use Rattle.outline.specs.Second.{AtMostOne, One, exactly-one, at-most}

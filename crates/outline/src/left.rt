@@ -1,12 +1,12 @@
 // LEFT: the turn at every point is left.
-use crate::points::coord;
-use crate::points::point_after;
-use crate::points::point_before;
+use crate::pairs::coord;
+use crate::pairs::point_after;
+use crate::pairs::point_before;
 use space::minor;
 ghost use mathlib.Core.Path.{_≡_};
 ghost use Prim.Native.Nat.{_<_};
 ghost use Rattle.whole.specs.First.{firstBelow};
-ghost use Rattle.space.specs.Range.{InRange};
+ghost use Rattle.points.specs.Range.{InRange};
 ghost use Rattle.space.specs.Rows.{Step};
 ghost use Rattle.outline.specs.Outline.{count, Point, point, stepOf, isLeft, left, notLeft};
 

@@ -1,5 +1,5 @@
 mod left;
-mod points;
+mod pairs;
 mod range;
 mod wound;
 
@@ -7,7 +7,7 @@ use left::first_not_left;
 use range::first_out;
 use wound::second_far;
 ghost use mathlib.Core.Path.{_≡_};
-ghost use Rattle.space.specs.Range.{InRange};
+ghost use Rattle.points.specs.Range.{InRange};
 ghost use Rattle.outline.specs.Outline.{few, judgedTurns, judgedOutline};
 
 // The answer to an outline: the sheet's number, and the count or a point's number.

@@ -1,5 +1,5 @@
 // RANGE: every coordinate is within its limits.
-use space::is_out;
+use points::is_out;
 ghost use mathlib.Core.Path.{_≡_};
 ghost use Rattle.whole.specs.First.{firstBelow};
 ghost use Rattle.outline.specs.Outline.{count, Point, outOfRange};

@@ -1,11 +1,11 @@
 // WOUND: no second point is far.
-use crate::points::coord;
-use crate::points::point_after;
-use crate::points::point_before;
+use crate::pairs::coord;
+use crate::pairs::point_after;
+use crate::pairs::point_before;
 ghost use mathlib.Core.Path.{_≡_};
 ghost use Rattle.whole.specs.First.{firstBelow};
 ghost use Rattle.space.specs.Plane.{vec};
-ghost use Rattle.space.specs.Range.{InRange};
+ghost use Rattle.points.specs.Range.{InRange};
 ghost use Rattle.outline.specs.Outline.{count, Point, point, isGreater, far, wound};
 
 // Whether a is greater than b by x, then by y.

@@ -7,8 +7,8 @@ use native.Mathlib.Omega.{arith}
 use lib.IntN.{ℤ, pos}
 use lib.ListN.{length, take, replicate, length-take}
 use Rattle.tables.specs.Tables.{mostVertices, mostFacets}
-use Rattle.tape.specs.Joined.{length-listed}
-use Rattle.tape.specs.Over.{take-over, wrote}
+use Rattle.whole.specs.Joined.{length-listed}
+use Rattle.whole.specs.Over.{take-over, wrote}
 use Rattle.tape.specs.Reading.{readTape, pointsAt, cornersAt, beginsAt, length-points-at}
 use Rattle.tape.specs.Whole.{read-whole, refused-number}
 use Rattle.tape.specs.declared.Outcome.{Outcome}

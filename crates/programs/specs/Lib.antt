@@ -1,7 +1,4 @@
--- What the two programs print.
+-- What the two programs print of a tape.
 pub mod Tape
-pub mod Input
 pub mod Lines
 pub mod Filled
-pub mod Meaning
-pub mod Order

@@ -5,12 +5,12 @@ use Prim.Native.Nat.{ℕ, _≤_}
 use lib.IntN.{ℤ}
 use lib.ListN.{length, take, replicate}
 use lib.Seq.{length-sets}
-use Rattle.tables.specs.declared.Answer.{Answer}
+use Rattle.answers.specs.declared.Answer.{Answer}
 use Rattle.walk.specs.declared.Walked.{Walked}
-use Rattle.text.specs.Line.{numberOf, lineOf, lineIn, room, line-bytes}
-use Rattle.text.specs.declared.Line.{Line}
+use Rattle.lines.specs.Line.{numberOf, lineOf, lineIn, room, line-bytes}
+use Rattle.lines.specs.declared.Line.{Line}
 use Rattle.programs.specs.Tape.{judgedTape, walkedTape}
-use Rattle.programs.specs.Input.{startIn, directionIn}
+use Rattle.input.specs.Input.{startIn, directionIn}
 
 -- "number and three places"
 abbrev pub placesOf : Answer → List ℤ

@@ -3,14 +3,14 @@ use mathlib.Core.List.{List}
 use Prim.Native.Nat.{ℕ, _+_, _*_}
 use lib.IntN.{ℤ}
 use lib.ListN.{replicate}
-use Rattle.tables.specs.Answer.{refused}
-use Rattle.tables.specs.declared.Answer.{Answer}
+use Rattle.answers.specs.Answer.{refused}
+use Rattle.answers.specs.declared.Answer.{Answer}
 use Rattle.tape.specs.Reading.{readTape, pointsAt, cornersAt, beginsAt}
 use Rattle.tape.specs.declared.Outcome.{Outcome}
 use Rattle.tape.specs.declared.Outcome.the-variants.{Read, Refused}
 use Rattle.judge.specs.Judge.{judged}
 use Rattle.walk.specs.Walk.{walked, halted}
-use Rattle.walk.specs.declared.Direction.{Direction}
+use Rattle.direction.specs.declared.Direction.{Direction}
 use Rattle.walk.specs.declared.Walked.{Walked}
 
 -- of the tables of a tape that is read, or of the reader's number and offset

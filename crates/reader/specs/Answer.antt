@@ -5,7 +5,7 @@ use Prim.Native.Nat.{ℕ, _+_, _*_}
 use lib.Dec.{ltb}
 use lib.IntN.{ℤ}
 use lib.ListN.{length}
-use Rattle.tape.specs.Over.{over}
+use Rattle.whole.specs.Over.{over}
 use Rattle.tape.specs.Reading.{readTape, pointsAt, cornersAt, beginsAt}
 use Rattle.tape.specs.declared.Outcome.{Outcome}
 use Rattle.tape.specs.declared.Outcome.the-variants.{Read, Refused}

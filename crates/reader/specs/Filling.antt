@@ -6,8 +6,8 @@ use native.Mathlib.Omega.{arith}
 use lib.ListN.{length, getD, take, set}
 use lib.Seq.{sets}
 use Rattle.tables.specs.Tables.{mostFacets, mostCorners, mostSides}
-use Rattle.tape.specs.Joined.{joined-0, joined-more, length-listed}
-use Rattle.tape.specs.Over.{Wrote, wrote-none, stored, over, take-over}
+use Rattle.whole.specs.Joined.{joined-0, joined-more, length-listed}
+use Rattle.whole.specs.Over.{Wrote, wrote-none, stored, over, take-over}
 use Rattle.tape.specs.Reading.{place, numbersAt, facetFrom, cornersAt, beginsAt}
 use Rattle.tape.specs.Whole.{Facets, place-0, place-more, corners-more, length-from, facet-inside, facet-short}
 

@@ -1,5 +1,4 @@
--- What the reader answers and leaves, and where its two passes stand.
+-- The tape's reader.
 pub mod Answer
 pub mod Room
-pub mod Deciding
 pub mod Filling

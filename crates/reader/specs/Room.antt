@@ -9,7 +9,7 @@ use lib.IntN.{ℤ}
 use lib.ListN.{length}
 use borrow.Author.Tests.{ltb-false}
 use Rattle.whole.specs.Count.{neither}
-use Rattle.tape.specs.Over.{over}
+use Rattle.whole.specs.Over.{over}
 use Rattle.tape.specs.Reading.{readTape, pointsAt, cornersAt, beginsAt}
 use Rattle.tables.specs.Tables.{mostCorners}
 use Rattle.tape.specs.Whole.{Whole, Facets, place-0, place-rises}

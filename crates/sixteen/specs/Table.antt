@@ -8,31 +8,33 @@ use Rattle.whole.specs.First.{firstBelow}
 use Rattle.whole.specs.Count.{countBelow, lastBelow}
 use Rattle.whole.specs.Orbit.{iterate}
 use Rattle.whole.specs.Rounds.{tab, rounds}
-use Rattle.space.specs.Range.{isOut}
+use Rattle.points.specs.Range.{isOut}
 use Rattle.space.specs.Plane.{det as det²}
 use Rattle.space.specs.Vectors.{_-_, _·_, det}
-use Rattle.space.specs.Points.{coordOf}
+use Rattle.points.specs.Points.{coordOf}
 use Rattle.tables.specs.Tables.{homeOf, nextOf}
 use Rattle.tables.specs.Size.{isSize}
-use Rattle.tables.specs.Answer.{accepted, refused}
-use Rattle.tables.specs.declared.Answer.{Answer}
-use Rattle.edges.specs.Across.{acrossOf}
-use Rattle.closed.specs.Step.{stepOf}
-use Rattle.closed.specs.Apart.{flooded}
-use Rattle.flat.specs.Rules.{isBent, isTurn}
-use Rattle.convex.specs.Rules.{isReflex, isOutside}
+use Rattle.answers.specs.Answer.{accepted, refused}
+use Rattle.answers.specs.declared.Answer.{Answer}
+use Rattle.edges.specs.Edge.{acrossOf}
+use Rattle.ring.specs.Step.{stepOf}
+use Rattle.apart.specs.Apart.{flooded}
+use Rattle.flat.specs.Rules.{isBent}
+use Rattle.turn.specs.Rules.{isTurn}
+use Rattle.reflex.specs.Rules.{isReflex}
+use Rattle.outside.specs.Rules.{isOutside}
 use Rattle.judge.specs.Judge.{judged}
-use Rattle.walk.specs.Direction.{direction, isSteep}
-use Rattle.walk.specs.Step.{step}
-use Rattle.walk.specs.Course.{after, stood}
+use Rattle.direction.specs.Direction.{direction, isSteep}
+use Rattle.climb.specs.Step.{step}
+use Rattle.climb.specs.Course.{after, stood}
 use Rattle.walk.specs.Walk.{walked, trailAfter}
-use Rattle.walk.specs.declared.Direction.{Direction}
+use Rattle.direction.specs.declared.Direction.{Direction}
 use Rattle.walk.specs.declared.Walked.{Walked}
 use Rattle.outline.specs.Outline.{coordOf as coordOf², before, after as after², few, isGreater, verdict, judgedTurns, judgedOutline}
 use Rattle.outline.specs.declared.Verdict.{Verdict}
 use Rattle.tape.specs.Little.{bytesOf, numberAt, bits, signed}
-use Rattle.tape.specs.Joined.{joined}
-use Rattle.tape.specs.Over.{over}
+use Rattle.whole.specs.Joined.{joined}
+use Rattle.whole.specs.Over.{over}
 use Rattle.tape.specs.Records.{packed}
 use Rattle.tape.specs.Reading.{lookAt, run, readTape, place}
 use Rattle.reader.specs.Answer.{reading, pointsAfter, cornersAfter, beginsAfter}

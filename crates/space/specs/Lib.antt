@@ -1,9 +1,7 @@
--- Exact geometry: vectors, their algebra, and points in the lent table.
+-- Exact geometry on whole numbers: the determinant of three rows of three, cross products, and numbers against 0.
 pub mod Vec
 pub mod Vectors
 pub mod Algebra
 pub mod Plane
-pub mod Range
 pub mod Rows
-pub mod Points
-pub mod Sides
+pub mod Nought

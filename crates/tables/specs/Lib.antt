@@ -1,10 +1,7 @@
--- The solid's tables, the answer record, and numbers 1 to 5.
+-- The solid's three lent tables: their limits, number 1, SIZE, the facet look-up, and the first place at which a rule applies.
 pub mod Found
-pub mod Answer
 pub mod Tables
 pub mod Size
 pub mod Places
 pub mod Facets
-pub mod Rules
-pub mod InOrder
-pub mod Marks
+pub mod LookUp

@@ -10,7 +10,7 @@ use lib.ListN.{length, getD}
 use borrow.Author.Tests.{eqb-true, ltb-false, not-false}
 use Rattle.whole.specs.First.{anyBelow, any-false}
 use Rattle.whole.specs.Count.{neither}
-use Rattle.space.specs.Points.{vertices}
+use Rattle.points.specs.Points.{vertices}
 use Rattle.tables.specs.Tables.{leastVertices, mostVertices, leastFacets, mostFacets, mostCorners, leastSides, mostSides, facets, begin, end}
 
 -- "points not in threes; V, F or corners outside limits": by how many entries the three tables have

@@ -1,7 +1,5 @@
 -- The tape: its numbers, its records, the tape of tables, and the reading of bytes.
 pub mod Little
-pub mod Over
-pub mod Joined
 pub mod Records
 pub mod Tape
 pub mod Reading

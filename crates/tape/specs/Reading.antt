@@ -9,7 +9,7 @@ use lib.IntN.{ℤ}
 use lib.ListN.{length, getD, length-append}
 use Rattle.tables.specs.Tables.{mostVertices, mostFacets, mostCorners, mostSides}
 use Rattle.tape.specs.Little.{unsignedAt, signedAt}
-use Rattle.tape.specs.Joined.{joined, listed}
+use Rattle.whole.specs.Joined.{joined, listed}
 use Rattle.tape.specs.declared.Next.{Next}
 use Rattle.tape.specs.declared.Next.the-variants.{Point, Facet, End, Bad}
 use Rattle.tape.specs.declared.Outcome.{Outcome}

@@ -9,11 +9,11 @@ use lib.ListN.{length, getD, take, drop, length-append, length-drop}
 use lib.Seq.{take-suc, length-take-le}
 use mir.Syntax.{w16}
 use mir.Val.{SFits}
-use Rattle.space.specs.Points.{vertices, coordOf}
+use Rattle.points.specs.Points.{vertices, coordOf}
 use Rattle.tables.specs.Tables.{mostVertices, mostFacets, mostCorners, leastSides, mostSides, facets, begin, end, sides, facetOf}
 use Rattle.tables.specs.Size.{Laid}
 use Rattle.tape.specs.Little.{bytesOf, bits, length-bytes}
-use Rattle.tape.specs.Joined.{joined}
+use Rattle.whole.specs.Joined.{joined}
 
 -- "1 point: x, y, z, signed 16 bits each"; "3 to 12 facet: as many unsigned 16-bit vertex numbers as the kind says"
 pub data Record : Type 0 where

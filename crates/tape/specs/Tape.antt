@@ -4,7 +4,7 @@ use mathlib.Core.List.{List, [], _∷_, _++_}
 use Prim.Native.Nat.{ℕ, _+_, _*_}
 use lib.IntN.{ℤ}
 use lib.ListN.{length, length-append}
-use Rattle.space.specs.Points.{vertices}
+use Rattle.points.specs.Points.{vertices}
 use Rattle.tables.specs.Tables.{facets}
 use Rattle.tape.specs.Records.{framed, recordBytes, Parted, length-packed, length-records}
 

@@ -8,7 +8,7 @@ use native.Mathlib.Decide.{decLt}
 use lib.ListN.{length, getD, length-append}
 use Rattle.tables.specs.Tables.{mostVertices, mostFacets, mostCorners, leastSides, mostSides}
 use borrow.Author.Count.{below-more}
-use Rattle.tape.specs.Joined.{joined, joined-0, joined-more, joined-split, length-listed}
+use Rattle.whole.specs.Joined.{joined, joined-0, joined-more, joined-split, length-listed}
 use Rattle.tape.specs.Reading.{lookAt, after, run, readTape, place, facetFrom, cornersAt}
 use Rattle.tape.specs.Look.{IsPoint, IsFacet, IsEnd, tells, is-point, is-facet, is-end}
 use Rattle.tape.specs.declared.Next.{Next}

@@ -5,13 +5,13 @@ use Prim.Native.Nat.{ℕ}
 use lib.IntN.{ℤ, pos, negsuc}
 use lib.ListN.{length, take, replicate}
 use Rattle.whole.specs.First.{firstBelow}
-use Rattle.space.specs.Range.{isOut}
-use Rattle.space.specs.Points.{coordOf}
+use Rattle.points.specs.Range.{isOut}
+use Rattle.points.specs.Points.{coordOf}
 use Rattle.tables.specs.Size.{isSize}
-use Rattle.tables.specs.Answer.{accepted, refused}
+use Rattle.answers.specs.Answer.{accepted, refused}
 use Rattle.tape.specs.Little.{bytesOf, numberAt, bits, signed}
-use Rattle.tape.specs.Joined.{joined}
-use Rattle.tape.specs.Over.{over}
+use Rattle.whole.specs.Joined.{joined}
+use Rattle.whole.specs.Over.{over}
 use Rattle.tape.specs.Records.{packed}
 use Rattle.tape.specs.Tape.{tape}
 use Rattle.tape.specs.Reading.{lookAt, run, readTape, pointsAt, place, cornersAt, beginsAt}

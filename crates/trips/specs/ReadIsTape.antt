@@ -12,10 +12,10 @@ use lib.Seq.{drop-cons, drop-drop, take-add, take-all, getD-append-add, take-at,
 use mir.Syntax.{w16}
 use mir.Val.{SFits}
 use mir.Facts.{sfits-lit}
-use Rattle.space.specs.Points.{vertices, coordOf}
+use Rattle.points.specs.Points.{vertices, coordOf}
 use Rattle.tables.specs.Tables.{facets, begin, sides, facetOf}
 use Rattle.tape.specs.Little.{Bytes, unsignedAt, bytes-number, number-fits, bits-signed, signed-fits}
-use Rattle.tape.specs.Joined.{joined, joined-0, joined-same, joined-split, length-listed, getD-listed}
+use Rattle.whole.specs.Joined.{joined, joined-0, joined-same, joined-split, length-listed, getD-listed}
 use Rattle.tape.specs.Records.{facet, framed, packed, bytes, pointOf, pointBytes, facetBytes, packed-append, packed-one, Placed, Parted}
 use Rattle.tape.specs.Tape.{ending, tape}
 use Rattle.tape.specs.Reading.{coordsAt, numbersAt, pointsAt, place, facetFrom, cornersAt, beginsAt, length-points-at}

@@ -8,10 +8,10 @@ use lib.Dec.{lit<}
 use lib.IntN.{ℤ, pos}
 use lib.ListN.{length, getD, take, length-append}
 use lib.Seq.{drop-cons, take-add, take-suc, take-length, length-take-le, getD-at}
-use Rattle.space.specs.Points.{vertices, coordOf}
+use Rattle.points.specs.Points.{vertices, coordOf}
 use Rattle.tables.specs.Tables.{facets, begin, sides, facetOf}
 use Rattle.tape.specs.Little.{bytesOf, numberAt, unsignedAt, bits, number-after, number-bytes, length-bytes, signed-bits, bits-fit}
-use Rattle.tape.specs.Joined.{joined, listed, joined-same, joined-split}
+use Rattle.whole.specs.Joined.{joined, listed, joined-same, joined-split}
 use Rattle.tape.specs.Records.{facet, body, framed, packed, bytes, pointOf, pointBytes, facetBytes, length-packed, length-points, length-facet, length-facets, begin-within}
 use Rattle.tape.specs.Tape.{ending, tape, length-tape}
 use Rattle.tape.specs.Reading.{coordsAt, numbersAt, pointsAt, place, cornersAt, beginsAt}

@@ -5,9 +5,9 @@ use Prim.Native.Nat.{ℕ, zero, suc, _*_, _<_}
 use lib.Dec.{lit<}
 use lib.IntN.{ℤ}
 use lib.ListN.{length, getD}
-use Rattle.space.specs.Points.{vertices}
+use Rattle.points.specs.Points.{vertices}
 use Rattle.tables.specs.Tables.{facets, facetOf}
-use Rattle.tape.specs.Joined.{joined}
+use Rattle.whole.specs.Joined.{joined}
 use Rattle.tape.specs.Records.{Placed, Parted}
 use Rattle.tape.specs.Tape.{tape}
 

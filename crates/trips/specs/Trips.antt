@@ -12,16 +12,16 @@ use native.Mathlib.Decide.{decLt}
 use borrow.Author.Tests.{le-ltb, eqb-true, ne-eqb, leb-false, not-false}
 use Rattle.whole.specs.First.{anyBelow}
 use Rattle.whole.specs.Count.{neither}
-use Rattle.space.specs.Points.{vertices}
+use Rattle.points.specs.Points.{vertices}
 use Rattle.tables.specs.Tables.{leastVertices, mostVertices, leastFacets, mostFacets, mostCorners, facets, sides, facetOf}
 use Rattle.tables.specs.Size.{isSize, wrongLengths, wrongEnds, wrongSides}
 use Rattle.tables.specs.Found.{first-none}
 use Rattle.tables.specs.Facets.{onFacets}
-use Rattle.tables.specs.Rules.{wild}
-use Rattle.tables.specs.Answer.{accepted}
+use Rattle.limits.specs.Rules.{wild}
+use Rattle.answers.specs.Answer.{accepted}
 use Rattle.tape.specs.Little.{Bytes}
-use Rattle.tape.specs.Joined.{length-listed}
-use Rattle.tape.specs.Over.{over, take-over}
+use Rattle.whole.specs.Joined.{length-listed}
+use Rattle.whole.specs.Over.{over, take-over}
 use Rattle.tape.specs.Records.{parted, length-facet}
 use Rattle.tape.specs.Tape.{tape}
 use Rattle.tape.specs.Reading.{readTape, pointsAt, cornersAt, beginsAt, length-points-at}
@@ -31,7 +31,7 @@ use Rattle.tape.specs.declared.Outcome.the-variants.{Read, Refused}
 use Rattle.reader.specs.Answer.{answerOf, noRoom, outcome, reading, pointsAfter, cornersAfter, beginsAfter}
 use Rattle.reader.specs.Room.{with-room}
 use Rattle.writer.specs.Answer.{spaced, written, bufferAfter}
-use Rattle.tables.specs.InOrder.{InOrder, passes, laid}
+use Rattle.limits.specs.InOrder.{InOrder, passes, laid}
 use Rattle.writer.specs.Owed.{placed}
 use Rattle.trips.specs.Taped.{Sixteen, Holds, Taped}
 use Rattle.trips.specs.ReadIsTape.{whole-taped}

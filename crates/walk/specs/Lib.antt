@@ -1,14 +1,3 @@
--- The walk.
-pub mod Direction
-pub mod Step
-pub mod Best
-pub mod Ready
-pub mod Stepped
-pub mod Course
-pub mod Rise
-pub mod Climb
+-- The walk to a highest vertex of a solid that it judges first.
 pub mod Walk
 pub mod Meaning
-pub mod Neighbours
-pub mod Demand3
-pub mod Cases

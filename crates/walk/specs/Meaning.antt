@@ -9,13 +9,13 @@ use native.Mathlib.Decide.{ℕ-discrete, decLt}
 use lib.IntN.{ℤ}
 use lib.ListN.{length}
 use borrow.Author.Tests.{ne-eqb, le-leb, lt-leb, lt-ltb, le-ltb}
-use Rattle.space.specs.Points.{vertices}
-use Rattle.tables.specs.Answer.{refused}
+use Rattle.points.specs.Points.{vertices}
+use Rattle.answers.specs.Answer.{refused}
 use Rattle.judge.specs.Judge.{judged}
-use Rattle.walk.specs.Direction.{isWrong, Permitted, permitted, not-wrong, wrong-exactly}
-use Rattle.walk.specs.Course.{finish, trailed}
+use Rattle.direction.specs.Direction.{isWrong, Permitted, permitted, not-wrong, wrong-exactly}
+use Rattle.climb.specs.Course.{finish, trailed}
 use Rattle.walk.specs.Walk.{halted, arrived, fromStart, walked, trailAfter}
-use Rattle.walk.specs.declared.Direction.{Direction}
+use Rattle.direction.specs.declared.Direction.{Direction}
 use Rattle.walk.specs.declared.Walked.{Walked}
 
 module _ (points : List ℤ) (corners begins : List ℕ) (d : Direction) (start : ℕ) (trail : List ℕ) where

@@ -5,14 +5,14 @@ use Prim.Native.Nat.{ℕ}
 use lib.Dec.{eqb, ltb, leb}
 use lib.IntN.{ℤ, pos}
 use lib.ListN.{length}
-use Rattle.space.specs.Points.{vertices}
-use Rattle.tables.specs.Answer.{refused}
-use Rattle.tables.specs.declared.Answer.{Answer}
+use Rattle.points.specs.Points.{vertices}
+use Rattle.answers.specs.Answer.{refused}
+use Rattle.answers.specs.declared.Answer.{Answer}
 use Rattle.judge.specs.Judge.{judged}
-use Rattle.walk.specs.Direction.{isWrong}
-use Rattle.walk.specs.Course.{finish, trailed}
-use Rattle.walk.specs.declared.Direction.{Direction}
-use Rattle.walk.specs.declared.Standing.{Standing}
+use Rattle.direction.specs.Direction.{isWrong}
+use Rattle.climb.specs.Course.{finish, trailed}
+use Rattle.direction.specs.declared.Direction.{Direction}
+use Rattle.climb.specs.declared.Standing.{Standing}
 use Rattle.walk.specs.declared.Walked.{Walked}
 
 -- "A refusal returns vertex, height and moves 0, beside the judge's places where it has them"

@@ -13,3 +13,5 @@ pub mod Stores
 pub mod Orbit
 pub mod Rounds
 pub mod Flood
+pub mod Joined
+pub mod Over

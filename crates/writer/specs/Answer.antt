@@ -5,10 +5,10 @@ use Prim.Native.Nat.{ℕ}
 use lib.Dec.{ltb, eqb}
 use lib.IntN.{ℤ}
 use lib.ListN.{length}
-use Rattle.tables.specs.Answer.{accepted, refused}
-use Rattle.tables.specs.InOrder.{checked}
-use Rattle.tables.specs.declared.Answer.{Answer}
-use Rattle.tape.specs.Over.{over}
+use Rattle.answers.specs.Answer.{accepted, refused}
+use Rattle.limits.specs.InOrder.{checked}
+use Rattle.answers.specs.declared.Answer.{Answer}
+use Rattle.whole.specs.Over.{over}
 use Rattle.tape.specs.Tape.{tape}
 
 -- "The writer refuses with 1, 2 or 3 as the judge does, then 23 SPACE, places 0, exactly when the lent buffer is shorter than the tape. Otherwise it gives the length"

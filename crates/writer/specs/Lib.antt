@@ -1,4 +1,4 @@
--- What the writer answers and leaves, and what tables that pass 1 to 3 have.
+-- The tape's writer.
 pub mod Answer
 pub mod Owed
 pub mod Records

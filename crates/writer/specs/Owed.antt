@@ -8,14 +8,14 @@ use lib.ListN.{length}
 use borrow.Author.Tests.{lt-ltb, le-ltb, ne-eqb}
 use mir.Syntax.{w16}
 use Rattle.whole.specs.Bounds.{within-fits}
-use Rattle.space.specs.Points.{vertices}
+use Rattle.points.specs.Points.{vertices}
 use Rattle.tables.specs.Tables.{mostVertices, mostFacets, mostCorners, facets}
 use Rattle.tables.specs.Size.{sized}
-use Rattle.tables.specs.Rules.{in-limits}
-use Rattle.tables.specs.Answer.{accepted, refused}
-use Rattle.tables.specs.declared.Answer.{Answer}
-use Rattle.tables.specs.InOrder.{checked, InOrder, passes, laid, stopped}
-use Rattle.tape.specs.Over.{over}
+use Rattle.limits.specs.Rules.{in-limits}
+use Rattle.answers.specs.Answer.{accepted, refused}
+use Rattle.answers.specs.declared.Answer.{Answer}
+use Rattle.limits.specs.InOrder.{checked, InOrder, passes, laid, stopped}
+use Rattle.whole.specs.Over.{over}
 use Rattle.tape.specs.Records.{Placed, parted}
 use Rattle.tape.specs.Tape.{tape, length-tape}
 use Rattle.writer.specs.Answer.{spaced, written, bufferAfter}

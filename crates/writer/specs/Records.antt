@@ -1,39 +1,12 @@
--- Stores into the rest of a buffer, as the record that they make. Assumes nothing.
+-- Facets written one after the other. Assumes nothing.
 use mathlib.Core.Path.{_≡_, ap, _∙_}
-use mathlib.Core.List.{List, [], _∷_}
+use mathlib.Core.List.{List}
 use Prim.Native.Nat.{ℕ, _+_, _*_, _≤_, _<_}
 use native.Mathlib.Omega.{arith}
-use lib.ListN.{length, set, length-set}
-use lib.Seq.{sets, length-sets}
+use lib.ListN.{length}
 use Rattle.tables.specs.Tables.{mostSides, facets, begin, sides, facetOf}
 use Rattle.tables.specs.Size.{Laid}
 use Rattle.tables.specs.Places.{end-in-run, sides-few, sides-some, part-length}
-use Rattle.tape.specs.Little.{bytesOf}
-use Rattle.tape.specs.Over.{Wrote, wrote, sets-over}
-use Rattle.tape.specs.Records.{framed, packed}
-
--- a byte of kind and then a body of numbers
-abbrev pub stores : List ℕ → ℕ → List ℕ → List ℕ
-stores rest kind body = sets (set rest 0 kind) 1 body
-
-pub length-stores : (rest : List ℕ) (kind : ℕ) (body : List ℕ) → length (stores rest kind body) ≡ length rest
-length-stores rest kind body = length-sets (set rest 0 kind) 1 body ∙ length-set rest 0 kind
-
-pub framed-all : (rest : List ℕ) {new : List ℕ} (kind : ℕ) (ns : List ℕ) → new ≡ stores rest kind (packed ns) → length (framed kind ns) ≤ length rest
-    → Wrote (framed kind ns) rest new
-framed-all rest kind ns e h = wrote (e ∙ sets-over (framed kind ns) rest h) h
-
-module _ (rest : List ℕ) (kind x y : ℕ) {one two : List ℕ} (a : one ≡ stores rest kind (bytesOf 2 x)) (b : two ≡ sets one 3 (bytesOf 2 y)) where
-  pub length-two : length two ≡ length rest
-  length-two = rw (b, length-sets, a) (length-stores rest kind (bytesOf 2 x))
-
-  pub framed-two : 5 ≤ length rest → Wrote (framed kind (x ∷ y ∷ [])) rest two
-  unfolding packed bytesOf
-  framed-two h = framed-all rest kind (x ∷ y ∷ []) (rw (b, a)) h
-
-  pub framed-three : (z : ℕ) {three : List ℕ} → three ≡ sets two 5 (bytesOf 2 z) → 7 ≤ length rest → Wrote (framed kind (x ∷ y ∷ z ∷ [])) rest three
-  unfolding packed bytesOf
-  framed-three z c h = framed-all rest kind (x ∷ y ∷ z ∷ []) (rw (c, b, a)) h
 
 -- what is known of the facet of one turn, whose record starts at `at`
 pub record Turn (corners begins part : List ℕ) (at f : ℕ) : Type 0 where

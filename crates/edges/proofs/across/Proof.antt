@@ -6,8 +6,7 @@ use native.Mathlib.Omega.{arith}
 use lib.ListN.{length}
 use Rattle.whole.specs.Filled.{Filled, filled-0, filled-more}
 use Rattle.edges.specs.Index.{to-small}
-use Rattle.edges.specs.Across.{acrossOf, across-is}
-use Rattle.edges.specs.Answered.{across-below}
+use Rattle.edges.specs.Edge.{acrossOf, across-is, across-below}
 use Rattle.edges.proofs.last_edge.Reads as last-edge-reads
 use Rattle.edges.proofs.place_of.Reads as place-of-reads
 use Rattle.edges.proofs.across.Reads as reads

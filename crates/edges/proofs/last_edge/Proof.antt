@@ -3,7 +3,7 @@ use borrow.Author.Needs.{needs}
 use borrow.Author.Tests.{eq-eqb, ne-eqb}
 use native.Mathlib.Omega.{arith}
 use Rattle.edges.specs.Chains.{Unmet, falls, unmet-0, unmet-more, unmet-here, unmet-none}
-use Rattle.edges.specs.Pair.{isEdge, edge-within, edge-entry}
+use Rattle.edges.specs.Edge.{isEdge, edge-within, edge-entry}
 use Rattle.edges.proofs.last_edge.Statement.{statement}
 use Rattle.edges.proofs.last_edge.Tie as tie
 

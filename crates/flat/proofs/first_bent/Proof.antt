@@ -6,7 +6,7 @@ use native.Mathlib.Omega.{arith}
 use Prim.Native.Nat.{_-_, _≤_}
 use lib.ListN.{length}
 use Rattle.whole.specs.First.{None, none-more, found, none}
-use Rattle.space.specs.Sides.{isOn}
+use Rattle.sides.specs.Sides.{isOn}
 use Rattle.flat.specs.Rules.{isBent, bent-later, in-line-at, not-in-line}
 use Rattle.flat.proofs.first_bent.Statement.{statement}
 use Rattle.flat.proofs.first_bent.Tie as tie

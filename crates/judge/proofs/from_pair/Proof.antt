@@ -2,7 +2,7 @@
 use borrow.Author.Needs.{needs}
 use mathlib.Core.Path.{refl, sym, _∙_}
 use Rattle.edges.specs.Index.{all-named}
-use Rattle.edges.specs.Pair.{pair-none}
+use Rattle.pair.specs.Pair.{pair-none}
 use Rattle.judge.proofs.from_pair.Statement.{statement}
 use Rattle.judge.proofs.from_pair.Tie as tie
 

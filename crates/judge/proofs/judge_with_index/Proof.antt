@@ -1,7 +1,7 @@
 -- `judge::judge_with_index` meets its contract. Assumes nothing.
 use borrow.Author.Needs.{needs}
 use mathlib.Core.Path.{sym, _∙_}
-use Rattle.tables.specs.InOrder.{stopped, passed, passes}
+use Rattle.limits.specs.InOrder.{stopped, passed, passes}
 use Rattle.judge.specs.Judge.{judged}
 use Rattle.judge.specs.Stages.{measured}
 use Rattle.judge.proofs.judge_with_index.Statement.{statement}

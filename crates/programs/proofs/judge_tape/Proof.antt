@@ -2,7 +2,7 @@
 use borrow.Author.Needs.{needs}
 use mathlib.Core.Path.{_∙_}
 use native.Mathlib.Omega.{arith}
-use Rattle.tables.specs.Answer.{refused}
+use Rattle.answers.specs.Answer.{refused}
 use Rattle.judge.specs.Judge.{judged}
 use Rattle.programs.specs.Tape.{judgedTape}
 use Rattle.programs.specs.Filled.{Parts, taken, parts, holds, refuses, lentPoints, lentCorners, lentBegins, lent-room}

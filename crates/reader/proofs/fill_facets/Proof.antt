@@ -5,8 +5,8 @@ use mathlib.Core.List.{List}
 use Prim.Native.Nat.{ℕ, _+_, _-_}
 use native.Mathlib.Omega.{arith}
 use lib.ListN.{getD, length-set}
-use Rattle.tape.specs.Joined.{length-listed}
-use Rattle.tape.specs.Over.{Wrote, wrote}
+use Rattle.whole.specs.Joined.{length-listed}
+use Rattle.whole.specs.Over.{Wrote, wrote}
 use Rattle.tape.specs.Reading.{numbersAt}
 use Rattle.reader.specs.Filling.{Turn, Filling, filling-0, filling-more, by-tray, turn, filled}
 use Rattle.reader.proofs.fill_facets.Statement.{statement}

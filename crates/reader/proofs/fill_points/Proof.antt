@@ -3,8 +3,8 @@ use borrow.Author.Needs.{needs}
 use mathlib.Core.Path.{_≡_}
 use Prim.Native.Nat.{_+_, _-_, _*_, _≤_}
 use native.Mathlib.Omega.{arith}
-use Rattle.tape.specs.Joined.{joined-0, joined-more}
-use Rattle.tape.specs.Over.{Wrote, wrote-none, stored}
+use Rattle.whole.specs.Joined.{joined-0, joined-more}
+use Rattle.whole.specs.Over.{Wrote, wrote-none, stored}
 use Rattle.tape.specs.Reading.{coordsAt, pointsAt, length-points-at}
 use Rattle.reader.proofs.fill_points.Statement.{statement}
 use Rattle.reader.proofs.fill_points.Tie as tie

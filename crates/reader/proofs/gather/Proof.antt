@@ -6,8 +6,8 @@ use Prim.Native.Nat.{ℕ, _+_, _-_, _*_, _≤_}
 use native.Mathlib.Omega.{arith}
 use lib.Seq.{sets}
 use Rattle.tape.specs.Little.{unsignedAt}
-use Rattle.tape.specs.Joined.{joined-0, joined-more, length-listed}
-use Rattle.tape.specs.Over.{Wrote, wrote-none, stored}
+use Rattle.whole.specs.Joined.{joined-0, joined-more, length-listed}
+use Rattle.whole.specs.Over.{Wrote, wrote-none, stored}
 use Rattle.tape.specs.Reading.{numbersAt}
 use Rattle.reader.proofs.gather.Statement.{statement}
 use Rattle.reader.proofs.gather.Tie as tie

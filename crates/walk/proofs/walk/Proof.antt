@@ -2,8 +2,8 @@
 use borrow.Author.Needs.{needs}
 use mathlib.Core.Path.{refl, sym, ap, _∙_}
 use native.Mathlib.Omega.{arith}
-use Rattle.judge.specs.Meaning.{is-measured}
-use Rattle.walk.specs.Direction.{permitted, wrong-exactly}
+use Rattle.accepts.specs.Meaning.{is-measured}
+use Rattle.direction.specs.Direction.{permitted, wrong-exactly}
 use Rattle.walk.specs.Walk.{halted, arrived}
 use Rattle.walk.specs.Meaning.{JUDGED, START, DIRECTION, TRAIL, ARRIVED, row-is}
 use Rattle.walk.proofs.walk.Statement.{statement}

@@ -6,8 +6,8 @@ use Prim.Native.Nat.{ℕ, _+_, _-_, _*_, _≤_}
 use native.Mathlib.Omega.{arith}
 use lib.ListN.{length}
 use Rattle.tables.specs.Tables.{facets, begin, facetOf}
-use Rattle.tape.specs.Joined.{joined-0, joined-more}
-use Rattle.tape.specs.Over.{Wrote, wrote-none, over, part, handed, length-part}
+use Rattle.whole.specs.Joined.{joined-0, joined-more}
+use Rattle.whole.specs.Over.{Wrote, wrote-none, over, part, handed, length-part}
 use Rattle.tape.specs.Records.{bytes, facet, facetBytes, parted, length-packed, length-facets}
 use Rattle.writer.specs.Records.{Turn, turn}
 use Rattle.writer.proofs.put_facets.Statement.{statement}

@@ -6,10 +6,10 @@ use lib.Dec.{lit<}
 use lib.IntN.{ℤ}
 use mir.Syntax.{w16, w32}
 use mir.Val.{SFits, toZ, ofZ}
-use Rattle.space.specs.Points.{vertices, coordOf}
+use Rattle.points.specs.Points.{vertices, coordOf}
 use Rattle.tape.specs.Little.{read-back}
-use Rattle.tape.specs.Joined.{joined-0, joined-more}
-use Rattle.tape.specs.Over.{Wrote, wrote-none, handed, length-part}
+use Rattle.whole.specs.Joined.{joined-0, joined-more}
+use Rattle.whole.specs.Over.{Wrote, wrote-none, handed, length-part}
 use Rattle.tape.specs.Records.{bytes, pointOf, pointBytes, length-packed, length-points}
 use Rattle.writer.proofs.put_points.Statement.{statement}
 use Rattle.writer.proofs.put_points.Tie as tie

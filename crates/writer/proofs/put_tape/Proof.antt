@@ -4,12 +4,12 @@ use mathlib.Core.Path.{_∙_}
 use Prim.Native.Nat.{ℕ, _+_, _*_}
 use native.Mathlib.Omega.{arith}
 use lib.ListN.{length}
-use Rattle.space.specs.Points.{vertices}
+use Rattle.points.specs.Points.{vertices}
 use Rattle.tables.specs.Tables.{facets}
-use Rattle.tape.specs.Over.{Wrote, wrote, back, handed, length-part}
+use Rattle.whole.specs.Over.{Wrote, wrote, back, handed, length-part}
 use Rattle.tape.specs.Records.{pointBytes, facetBytes, recordBytes, parted, length-packed, length-points, length-all-facets, length-records}
 use Rattle.tape.specs.Tape.{ending, tape}
-use Rattle.tables.specs.InOrder.{laid}
+use Rattle.limits.specs.InOrder.{laid}
 use Rattle.writer.specs.Owed.{Long, long, placed}
 use Rattle.writer.proofs.put_tape.Statement.{statement}
 use Rattle.writer.proofs.put_tape.Tie as tie

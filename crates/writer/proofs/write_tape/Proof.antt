@@ -1,7 +1,7 @@
 -- `writer::write_tape` meets its contract. Assumes nothing.
 use borrow.Author.Needs.{needs}
 use native.Mathlib.Omega.{arith}
-use Rattle.tables.specs.InOrder.{InOrder, passed}
+use Rattle.limits.specs.InOrder.{InOrder, passed}
 use Rattle.writer.specs.Owed.{Long, long, faulty-owed, short-owed, written-owed}
 use Rattle.writer.proofs.write_tape.Statement.{statement}
 use Rattle.writer.proofs.write_tape.Tie as tie

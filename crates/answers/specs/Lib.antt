@@ -1,0 +1,2 @@
+-- The judge's record, which walk, writer and programs share.
+pub mod Answer

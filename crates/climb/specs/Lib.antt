@@ -1,0 +1,8 @@
+-- One step of the walk, and steps until none rises.
+pub mod Step
+pub mod Course
+pub mod Best
+pub mod Ready
+pub mod Stepped
+pub mod Rise
+pub mod Climb

@@ -1,0 +1,85 @@
+-- Cases J, K and L of the sheet, and its refusals, by computation. Assumes nothing.
+use mathlib.Core.Path.{_≡_, refl}
+use mathlib.Core.List.{List, [], _∷_, _++_}
+use Prim.Native.Nat.{ℕ}
+use lib.IntN.{ℤ, pos, negsuc}
+use Rattle.whole.specs.First.{firstBelow}
+use Rattle.whole.specs.Count.{countBelow, lastBelow}
+use Rattle.whole.specs.Orbit.{iterate}
+use Rattle.whole.specs.Rounds.{tab, rounds}
+use Rattle.space.specs.Vectors.{_-_, _·_, det}
+use Rattle.points.specs.Range.{isOut}
+use Rattle.points.specs.Points.{coordOf}
+use Rattle.sides.specs.Sides.{stepOf}
+use Rattle.tables.specs.Tables.{homeOf, nextOf}
+use Rattle.tables.specs.Size.{isSize}
+use Rattle.answers.specs.Answer.{refused}
+use Rattle.edges.specs.Edge.{acrossOf}
+use Rattle.ring.specs.Step.{stepOf as turnOf}
+use Rattle.apart.specs.Apart.{flooded}
+use Rattle.flat.specs.Rules.{isBent}
+use Rattle.turn.specs.Rules.{isTurn}
+use Rattle.reflex.specs.Rules.{isReflex}
+use Rattle.outside.specs.Rules.{isOutside}
+use Rattle.judge.specs.Judge.{judged}
+use Rattle.direction.specs.Direction.{direction, isSteep}
+use Rattle.climb.specs.Step.{step}
+use Rattle.climb.specs.Course.{after, stood}
+use Rattle.walk.specs.Walk.{halted, walked, trailAfter}
+use Rattle.direction.specs.declared.Direction.{Direction}
+use Rattle.walk.specs.declared.Walked.{Walked}
+
+-- solid T without its last facet's corners
+abbrev points : List ℤ
+points = pos 0 ∷ pos 0 ∷ pos 0 ∷ pos 1 ∷ pos 0 ∷ pos 0 ∷ pos 0 ∷ pos 1 ∷ pos 0 ∷ pos 0 ∷ pos 0 ∷ pos 1 ∷ []
+
+abbrev corners : List ℕ
+corners = 0 ∷ 2 ∷ 1 ∷ 0 ∷ 1 ∷ 3 ∷ 0 ∷ 3 ∷ 2 ∷ []
+
+abbrev begins : List ℕ
+begins = 0 ∷ 3 ∷ 6 ∷ 9 ∷ 12 ∷ []
+
+-- a trail of five entries, each 9
+abbrev lent : List ℕ
+lent = 9 ∷ 9 ∷ 9 ∷ 9 ∷ 9 ∷ []
+
+abbrev to : ℕ → ℤ → ℕ → Walked
+to v z n = record { answer = refused 0 0 0; vertex = v; height = z; moves = n }
+
+-- a walk on T with its last facet as here, its answer, and the trail after it
+pub record Case (last : List ℕ) (d : Direction) (start : ℕ) (trail : List ℕ) (r : Walked) (t : List ℕ) : Type 0 where
+  pub answer : walked points (corners ++ last) begins d start trail ≡ r
+  pub trail-after : trailAfter points (corners ++ last) begins d start trail ≡ t
+
+abbrev T : List ℕ
+T = 1 ∷ 2 ∷ 3 ∷ []
+
+pub record Cases : Type 0 where
+  -- "J. Walk on T, direction 1,1,1, start 0: vertex 1, height 1, 1 move, trail 0, 1."
+  pub J : Case T (direction (pos 1) (pos 1) (pos 1)) 0 lent (to 1 (pos 1) 1) (0 ∷ 1 ∷ 9 ∷ 9 ∷ 9 ∷ [])
+  -- "K. T, direction 0,0,0, start 3: vertex 3, height 0, 0 moves, trail 3."
+  pub K : Case T (direction (pos 0) (pos 0) (pos 0)) 3 lent (to 3 (pos 0) 0) (3 ∷ 9 ∷ 9 ∷ 9 ∷ 9 ∷ [])
+  -- "L. T, direction 0,0,-1, start 3: vertex 0, height 0, 1 move, trail 3, 0."
+  pub L : Case T (direction (pos 0) (pos 0) (negsuc 0)) 3 lent (to 0 (pos 0) 1) (3 ∷ 0 ∷ 9 ∷ 9 ∷ 9 ∷ [])
+  -- "1 to 12 as the judge gives": case G, before a start that there isn't
+  pub judge-first : Case (1 ∷ 3 ∷ 2 ∷ []) (direction (pos 1) (pos 1) (pos 1)) 4 lent (halted (refused 6 0 1)) lent
+  -- 13 before 14, 14 before 15
+  pub start-first : Case T (direction (pos 32768) (pos 0) (pos 0)) 4 lent (halted (refused 13 0 0)) lent
+  pub direction-first : Case T (direction (pos 0) (pos 0) (negsuc 32767)) 3 [] (halted (refused 14 0 0)) []
+  -- 15 with one entry fewer than V, though the walk needs but two
+  pub short-trail : Case T (direction (pos 1) (pos 1) (pos 1)) 0 (9 ∷ 9 ∷ 9 ∷ []) (halted (refused 15 0 0)) (9 ∷ 9 ∷ 9 ∷ [])
+  -- parts at their limits are permitted, and V entries are room
+  pub limits : Case T (direction (pos 32767) (negsuc 32766) (pos 0)) 2 (9 ∷ 9 ∷ 9 ∷ 9 ∷ []) (to 1 (pos 32767) 1) (2 ∷ 1 ∷ 9 ∷ 9 ∷ [])
+
+pub cases : Cases
+unfolding walked trailAfter judged isSize isOut coordOf stepOf _-_ _·_ det firstBelow countBelow lastBelow iterate tab rounds homeOf nextOf acrossOf turnOf flooded isBent isTurn isReflex isOutside isSteep step after stood
+cases = record {
+  J = record { answer = refl; trail-after = refl };
+  K = record { answer = refl; trail-after = refl };
+  L = record { answer = refl; trail-after = refl };
+  judge-first = record { answer = refl; trail-after = refl };
+  start-first = record { answer = refl; trail-after = refl };
+  direction-first = record { answer = refl; trail-after = refl };
+  short-trail = record { answer = refl; trail-after = refl };
+  limits = record { answer = refl; trail-after = refl };
+}

@@ -1,0 +1,39 @@
+-- `height::sum` meets its contract: no operation wraps. Assumes nothing.
+use mathlib.Core.List.{[], _∷_}
+use native.Mathlib.Omega.{arith}
+use mir.Syntax.{w64}
+use Rattle.whole.specs.Solver.{Expr}
+use Rattle.whole.specs.Formula.{exprs}
+use Rattle.whole.specs.Machine.{Small, fits, reads, reads-within}
+use Rattle.space.specs.Vec.{three, dot}
+use Rattle.space.specs.Vectors.{_·_}
+use Rattle.points.specs.Range.{limit}
+use Rattle.direction.specs.Direction.{steepest}
+use Rattle.height.proofs.sum.Reads as reading
+use Rattle.height.proofs.sum.Lts as lts
+use Rattle.height.proofs.sum.Statement.{statement}
+use Rattle.height.proofs.sum.Tie as tie
+
+-- the parameters a to c and x to z are the variables 0 to 5
+small : (c : lts.Start reading.Pre reading.Post) → let a = c .args in
+    Small (a .a ∷ a .b ∷ a .c ∷ a .x ∷ a .y ∷ a .z ∷ []) (steepest ∷ steepest ∷ steepest ∷ limit ∷ limit ∷ limit ∷ [])
+small c = omega arith
+
+result : Expr
+result = dot exprs (three .vars 0) (three .vars 3)
+
+returns : tie.Need-returns
+unfolding result _·_
+returns c = (reads w64 (small c) result tt, reads-within w64 (small c) result tt)
+
+pub sum-spec : {M : Type 1} → statement M
+unfolding result
+sum-spec =
+    tie.close
+    (tie.spec
+    (λ c. fits w64 (small c) result tt 0)
+    (λ c. fits w64 (small c) result tt 1)
+    (λ c. fits w64 (small c) result tt 2)
+    (λ c. fits w64 (small c) result tt 3)
+    (λ c. fits w64 (small c) result tt 4)
+    returns)

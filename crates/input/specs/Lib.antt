@@ -1,0 +1,2 @@
+-- The walk program's input: the start and the direction that its words name.
+pub mod Input

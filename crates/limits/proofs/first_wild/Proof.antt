@@ -1,0 +1,39 @@
+-- `limits::first_wild` meets its contract: the law of searches, at the test `wild n part`. Assumes nothing.
+use borrow.Author.Needs.{needs}
+use borrow.Author.Tests.{le-leb, lt-leb}
+use Prim.Native.Nat.{_-_, _≤_}
+use lib.ListN.{length}
+use Rattle.whole.specs.First.{None, none-0, none-more, found, none}
+use Rattle.limits.specs.Rules.{wild}
+use Rattle.limits.proofs.first_wild.Statement.{statement}
+use Rattle.limits.proofs.first_wild.Tie as tie
+
+abbrev Inv-loop : tie.InvT-loop
+Inv-loop part n p₀ p = (p ≤ length part) × None (wild n part) p
+
+abbrev μ-loop : tie.MeasureT-loop
+μ-loop part n p₀ p = length part - p
+
+returns : tie.Need-returns Inv-loop μ-loop
+returns c =
+    found (c .before .before .before .before .loop .inv .1) (rw (← (c .before .wide .ensures .0)) (le-leb _ _ (c .if1 .taken))) (search needs)
+
+loop-again : tie.Need-loop-again Inv-loop μ-loop
+loop-again c =
+    (search needs, none-more (c .before .before .before .before .loop .inv .1) (rw (← (c .before .wide .ensures .0)) (lt-leb _ _ (c .if1 .left))))
+
+pub first-wild-spec : {M : Type 1} → statement M
+first-wild-spec =
+    tie.close
+    (tie.spec
+    Inv-loop
+    μ-loop
+    (λ c. (search needs, none-0 _))
+    (λ c. search needs)
+    (λ c. search needs)
+    (λ c κs. search needs)
+    returns
+    (λ c. search needs)
+    (λ c. search needs)
+    loop-again
+    (λ c. none (c .before .loop .inv .1) (search needs) (search needs)))

@@ -1,0 +1,4 @@
+-- Lines of decimal numbers, written.
+pub mod Cases
+pub mod Line
+pub mod Shown

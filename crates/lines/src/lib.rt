@@ -1,0 +1,117 @@
+// Lines of decimal numbers, written.
+ghost use mathlib.Core.Path.{_≡_};
+ghost use mathlib.Core.List.{[], _∷_};
+ghost use Prim.Native.Nat.{_+_, _≤_, _<_};
+ghost use lib.IntN.{natAbs};
+ghost use lib.ListN.{length};
+ghost use lib.Seq.{sets};
+ghost use Rattle.lines.specs.Shown.{digit, digits, shown};
+ghost use Rattle.lines.specs.Line.{after, lineOf, room, lineIn, numberOf};
+
+// A number without its sign: that of the least number fits too.
+fn magnitude(x: i64) -> u64
+    ensures { λ r. ⌜ r ≡ natAbs x ⌝ }
+{
+    if x < 0 {
+        return (-(x + 1)) as u64 + 1;
+    }
+    x as u64
+}
+
+// The byte of a digit.
+fn digit(n: u64) -> u8
+    requires { ⌜ n < 10 ⌝ }
+    ensures { λ r. ⌜ r ≡ digit n ⌝ }
+{
+    b'0' + n as u8
+}
+
+// The digits of n, stored from `at` on; the place after them.
+fn put_digits(buf: &mut [u8], at: usize, n: u64) -> usize
+    requires { ⌜ at + length (digits n) ≤ length (now buf) ⌝ }
+    ensures { λ r. ⌜ (r ≡ at + length (digits n)) × (now (buf .exit) ≡ sets (now (buf .entry)) at (digits n)) ⌝ }
+{
+    if n < 10 {
+        buf[at] = digit(n);
+        return at + 1;
+    }
+    let end = put_digits(buf, at, n / 10);
+    buf[end] = digit(n % 10);
+    end + 1
+}
+
+// A number in decimal, stored from `at` on; the place after it.
+pub fn put_number(buf: &mut [u8], at: usize, z: i64) -> usize
+    requires { ⌜ at + length (shown z) ≤ length (now buf) ⌝ }
+    ensures { λ r. ⌜ (r ≡ at + length (shown z)) × (now (buf .exit) ≡ sets (now (buf .entry)) at (shown z)) ⌝ }
+{
+    if z < 0 {
+        buf[at] = b'-';
+        return put_digits(buf, at + 1, magnitude(z));
+    }
+    put_digits(buf, at, magnitude(z))
+}
+
+// What stands after a number that so many others follow.
+fn after(others: usize) -> u8
+    ensures { λ r. ⌜ r ≡ after others ⌝ }
+{
+    if others == 0 {
+        return b'\n';
+    }
+    b' '
+}
+
+// A line of numbers, stored from `at` on; the place after it.
+pub fn put_line(buf: &mut [u8], at: usize, numbers: &[i64]) -> usize
+    requires { ⌜ at + length (lineOf (now numbers)) ≤ length (now buf) ⌝ }
+    ensures { λ r. ⌜ (r ≡ at + length (lineOf (now (numbers .entry)))) × (now (buf .exit) ≡ sets (now (buf .entry)) at (lineOf (now (numbers .entry)))) ⌝ }
+{
+    let n = numbers.len();
+    let mut end = at;
+    let mut i = 0;
+    while i < n {
+        end = put_number(buf, end, numbers[i]);
+        i += 1;
+        buf[end] = after(n - i);
+        end += 1;
+    }
+    end
+}
+
+// Room for seven numbers of 20 bytes, each with a byte after it.
+pub const ROOM: usize = 147;
+
+// A line: its bytes are the first `len`, and the others are 0.
+pub struct Line {
+    pub bytes: [u8; ROOM],
+    pub len: usize,
+}
+
+// A line of numbers that has room.
+pub fn line_of(numbers: &[i64]) -> Line
+    requires { ⌜ length (lineOf (now numbers)) ≤ room ⌝ }
+    ensures { λ r. ⌜ r ≡ lineIn (now (numbers .entry)) ⌝ }
+{
+    let mut bytes = [0u8; ROOM];
+    let len = put_line(&mut bytes, 0, numbers);
+    Line { bytes, len }
+}
+
+// A place or a count as a number to print; none is so large that it is not itself.
+pub fn number_of(n: usize) -> i64
+    ensures { λ r. ⌜ r ≡ numberOf n ⌝ }
+{
+    if 9_223_372_036_854_775_807 < n {
+        return 9_223_372_036_854_775_807;
+    }
+    n as i64
+}
+
+// "number and three places, in decimal, single spaces, newline"
+pub fn line4(a: i64, b: i64, c: i64, d: i64) -> Line
+    ensures { λ r. ⌜ (r ≡ lineIn (a ∷ b ∷ c ∷ d ∷ [])) × (length (lineOf (a ∷ b ∷ c ∷ d ∷ [])) ≤ room) ⌝ }
+{
+    let numbers = [a, b, c, d];
+    line_of(&numbers)
+}

@@ -1,0 +1,39 @@
+-- `names::first_again` meets its contract. Assumes nothing.
+use borrow.Author.Needs.{needs}
+use borrow.Author.Tests.{lt-ltb, le-ltb}
+use Prim.Native.Nat.{_-_, _≤_}
+use lib.ListN.{length}
+use Rattle.whole.specs.First.{None, none-0, none-more, found, none}
+use Rattle.tables.specs.Tables.{again}
+use Rattle.names.proofs.first_again.Statement.{statement}
+use Rattle.names.proofs.first_again.Tie as tie
+
+abbrev Inv-loop : tie.InvT-loop
+Inv-loop part p₀ p = (p ≤ length part) × None (again part) p
+
+abbrev μ-loop : tie.MeasureT-loop
+μ-loop part p₀ p = length part - p
+
+returns : tie.Need-returns Inv-loop μ-loop
+returns c =
+    found (c .before .before .before .before .loop .inv .1) (rw (← c .before .first-at .ensures) (lt-ltb _ _ (c .if1 .taken))) (search needs)
+
+loop-again : tie.Need-loop-again Inv-loop μ-loop
+loop-again c =
+    (search needs, none-more (c .before .before .before .before .loop .inv .1) (rw (← c .before .first-at .ensures) (le-ltb _ _ (c .if1 .left))))
+
+pub first-again-spec : {M : Type 1} → statement M
+first-again-spec =
+    tie.close
+    (tie.spec
+    Inv-loop
+    μ-loop
+    (λ c. (search needs, none-0 _))
+    (λ c. search needs)
+    (λ c. search needs)
+    (λ c κs. search needs)
+    returns
+    (λ c. search needs)
+    (λ c. search needs)
+    loop-again
+    (λ c. none (c .before .loop .inv .1) (search needs) (search needs)))

@@ -1,0 +1,21 @@
+-- Numbers 4 and 5, REPEAT and UNUSED, each by its row of the sheet's table.
+use mathlib.Core.Bool.{Bool, not}
+use mathlib.Core.List.{List}
+use Prim.Native.Nat.{ℕ}
+use lib.ListN.{length}
+use Rattle.whole.specs.First.{anyBelow}
+use Rattle.tables.specs.Tables.{isAt, again}
+use Rattle.tables.specs.Found.{lowest}
+use Rattle.tables.specs.Facets.{inFacets}
+use Rattle.tables.specs.declared.Found.{Found}
+
+-- "a facet names a vertex again", at the position of the repeat
+abbrev pub repeat : List ℕ → List ℕ → Found
+repeat corners begins = inFacets corners begins again
+
+-- "no facet names this vertex"
+abbrev pub unnamed : List ℕ → ℕ → Bool
+unnamed corners v = not (anyBelow (isAt corners v) (length corners))
+
+abbrev pub unused : ℕ → List ℕ → Found
+unused n corners = lowest n (unnamed corners)

@@ -1,0 +1,3 @@
+-- Decimal numbers, read from words.
+pub mod Number
+pub mod Reading

@@ -1,0 +1,32 @@
+-- `out::note_places` meets its contract. Assumes nothing.
+use borrow.Author.Needs.{needs, sfits-of}
+use mir.Facts.{toZ-ofZ}
+use Rattle.out.proofs.note_places.Statement.{statement}
+use Rattle.out.proofs.note_places.Tie as tie
+
+returns : tie.Need-returns
+returns c =
+    let z = c .before .before .before .before in
+    let y = z .before in
+    let x = y .before in
+    rw (
+      c .before .note .ensures,
+      toZ-ofZ (sfits-of (x .number-of .ok)),
+      toZ-ofZ (sfits-of (y .number-of2 .ok)),
+      toZ-ofZ (sfits-of (z .number-of3 .ok)),
+      x .number-of .ensures,
+      y .number-of2 .ensures,
+      z .number-of3 .ensures,
+    )
+
+pub note-places-spec : {M : Type 1} → statement M
+note-places-spec =
+    tie.close
+    (tie.spec
+    (λ c κs. search needs)
+    (λ c κs. search needs)
+    (λ c κs. search needs)
+    (λ c. search needs)
+    (λ c κs. search needs)
+    (λ c. search needs)
+    returns)

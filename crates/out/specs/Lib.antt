@@ -1,0 +1,2 @@
+-- The numbers that the functions for Rust and C leave in `out`.
+pub mod Noted

@@ -1,0 +1,6 @@
+-- Number 6, PAIR, over the index of the edges.
+pub mod Flat
+pub mod Pair
+pub mod Across
+pub mod Answered
+pub mod Neighbours

@@ -1,0 +1,58 @@
+// The lent points: every coordinate is read here, with its limits.
+ghost use mathlib.Core.Path.{_≡_};
+ghost use mathlib.Core.Bool.{_||_};
+ghost use Prim.Native.Nat.{_<_};
+ghost use lib.IntN.{pos};
+ghost use lib.Signed.{ltZ};
+ghost use lib.ListN.{length, getD};
+ghost use Rattle.whole.specs.Bounds.{_within_};
+ghost use Rattle.points.specs.Range.{limit, isOut, InRange};
+ghost use Rattle.points.specs.Points.{Vertex, Ranged, coordOf};
+
+// Whether a number is outside least to most.
+pub fn is_beyond(x: i32, least: i32, most: i32) -> bool
+    ensures { λ r. ⌜ r ≡ (ltZ x least || ltZ most x) ⌝ }
+{
+    if x < least {
+        return true;
+    }
+    most < x
+}
+
+// Whether a coordinate is outside its limits.
+pub fn is_out(x: i32) -> bool
+    ensures { λ r. ⌜ r ≡ isOut x ⌝ }
+{
+    is_beyond(x, -8191, 8191)
+}
+
+// A number in 64 bits.
+pub fn widen(x: i32) -> i64
+    ensures { λ r. ⌜ r ≡ x ⌝ }
+{
+    x as i64
+}
+
+// Entry k of a run of coordinates.
+pub fn entry(run: &[i32], k: usize) -> i64
+    requires { ⌜ InRange (now run) × (k < length (now run)) ⌝ }
+    ensures { λ r. ⌜ (r ≡ getD (now (run .entry)) k (pos 0)) × r within limit ⌝ }
+{
+    widen(run[k])
+}
+
+// Coordinate k of vertex v: every reading of a point goes through here.
+pub fn coord(points: &[i32], v: usize, k: usize) -> i32
+    requires { ⌜ Vertex (now points) v × (k < 3) ⌝ }
+    ensures { λ r. ⌜ r ≡ coordOf (now (points .entry)) v k ⌝ }
+{
+    points[v * 3 + k]
+}
+
+// The same in 64 bits.
+pub fn wide(points: &[i32], v: usize, k: usize) -> i64
+    requires { ⌜ Ranged (now points) × Vertex (now points) v × (k < 3) ⌝ }
+    ensures { λ r. ⌜ (r ≡ coordOf (now (points .entry)) v k) × r within limit ⌝ }
+{
+    widen(coord(points, v, k))
+}

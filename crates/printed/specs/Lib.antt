@@ -1,0 +1,3 @@
+-- What the walk program's line says, refusal by refusal.
+pub mod Meaning
+pub mod Order

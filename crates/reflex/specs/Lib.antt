@@ -1,0 +1,2 @@
+-- Number 11, REFLEX: the fold at each edge.
+pub mod Rules

@@ -1,0 +1,115 @@
+// Number 11, REFLEX: the fold at each edge.
+ghost use mathlib.Core.Path.{_≡_};
+ghost use Prim.Native.Nat.{_<_};
+ghost use lib.ListN.{length};
+ghost use Rattle.whole.specs.First.{firstBelow};
+ghost use Rattle.points.specs.Points.{Vertex};
+ghost use Rattle.tables.specs.Tables.{facets, sides, facetOf};
+ghost use Rattle.edges.specs.Homes.{Homes};
+ghost use Rattle.pair.specs.Across.{Across};
+ghost use Rattle.flat.specs.Facet.{Facet, Measured};
+ghost use Rattle.reflex.specs.Rules.{isBeyond, someBeyond, reflexAt, beyond, isReflex, reflex};
+
+// Whether corner c, other than a and b, is not strictly inside a facet's plane.
+fn is_beyond(points: &[i32], part: &[u16], a: u16, b: u16, c: u16) -> bool
+    requires { ⌜ Facet (now points) (now part) × Vertex (now points) c ⌝ }
+    ensures { λ r. ⌜ r ≡ isBeyond (now (points .entry)) (now (part .entry)) a b c ⌝ }
+{
+    if c == a {
+        return false;
+    }
+    if c == b {
+        return false;
+    }
+    !sides::is_inside(flat::side_at(points, part, c))
+}
+
+// Whether some corner of a facet's part `other`, other than a and b, is not strictly inside a facet's plane.
+fn some_beyond(points: &[i32], part: &[u16], other: &[u16], a: u16, b: u16) -> bool
+    requires { ⌜ Facet (now points) (now part) × Facet (now points) (now other) ⌝ }
+    ensures { λ r. ⌜ r ≡ someBeyond (now (points .entry)) (now (part .entry)) (now (other .entry)) a b ⌝ }
+{
+    let mut r = 0;
+    while r < other.len() {
+        if is_beyond(points, part, a, b, other[r]) {
+            return true;
+        }
+        r += 1;
+    }
+    false
+}
+
+// REFLEX at position p of a facet; `other` is the facet across.
+fn is_reflex(points: &[i32], part: &[u16], other: &[u16], p: usize) -> bool
+    requires { ⌜ Facet (now points) (now part) × Facet (now points) (now other) × (p < length (now part)) ⌝ }
+    ensures { λ r. ⌜ r ≡ reflexAt (now (points .entry)) (now (part .entry)) (now (other .entry)) p ⌝ }
+{
+    let on = tables::next_position(part.len(), p);
+    some_beyond(points, part, other, part[p], part[on])
+}
+
+// The part of the run that has the corners of the facet across the edge at place q.
+fn part_across<'a>(
+    corners: &'a [u16],
+    begins: &[u16],
+    home: &[u16; 6144],
+    across: &[u16; 6144],
+    q: usize,
+) -> &'a [u16]
+    requires { ⌜ Homes (now corners) (now begins) (now home) × Across (now corners) (now begins) (now across) × (q < length (now corners)) ⌝ }
+    ensures { λ r. ⌜ now r ≡ facetOf (now (corners .entry)) (now (begins .entry)) (beyond (now (corners .entry)) (now (begins .entry)) q) ⌝ }
+{
+    let other = tables::wide(across[q]);
+    tables::part(corners, begins, tables::wide(home[other]))
+}
+
+// The first position of facet f at which REFLEX applies, or its number of sides.
+fn first_reflex(
+    points: &[i32],
+    corners: &[u16],
+    begins: &[u16],
+    home: &[u16; 6144],
+    across: &[u16; 6144],
+    f: usize,
+) -> usize
+    requires { ⌜ Measured (now points) (now corners) (now begins) × Homes (now corners) (now begins) (now home) ⌝ }
+    requires { ⌜ Across (now corners) (now begins) (now across) × (f < facets (now begins)) ⌝ }
+    ensures { λ r. ⌜ r ≡ firstBelow (isReflex (now (points .entry)) (now (corners .entry)) (now (begins .entry)) f) (sides (now (begins .entry)) f) ⌝ }
+{
+    let part = tables::part(corners, begins, f);
+    let begin = tables::wide(begins[f]);
+    let mut p = 0;
+    while p < part.len() {
+        let other = part_across(corners, begins, home, across, begin + p);
+        if is_reflex(points, part, other, p) {
+            return p;
+        }
+        p += 1;
+    }
+    p
+}
+
+// Number 11, REFLEX: its first place.
+pub fn reflex(
+    points: &[i32],
+    corners: &[u16],
+    begins: &[u16],
+    home: &[u16; 6144],
+    across: &[u16; 6144],
+) -> tables::Found
+    requires { ⌜ Measured (now points) (now corners) (now begins) × Homes (now corners) (now begins) (now home) ⌝ }
+    requires { ⌜ Across (now corners) (now begins) (now across) ⌝ }
+    ensures { λ r. ⌜ r ≡ reflex (now (points .entry)) (now (corners .entry)) (now (begins .entry)) ⌝ }
+{
+    let m = begins.len() - 1;
+    let mut f = 0;
+    while f < m {
+        let p = first_reflex(points, corners, begins, home, across, f);
+        let sides = tables::wide(begins[f + 1]) - tables::wide(begins[f]);
+        if p < sides {
+            return tables::Found::At(f, p);
+        }
+        f += 1;
+    }
+    tables::Found::Nothing
+}

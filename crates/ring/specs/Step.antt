@@ -1,0 +1,82 @@
+-- The step round a vertex: across the edge that leaves it, and on to the next edge of that facet, which leaves it again. Assumes nothing.
+use mathlib.Core.Path.{_≡_, sym, ap, _∙_}
+use mathlib.Core.List.{List}
+use Prim.Native.Nat.{ℕ, _+_, _-_, _<_}
+use native.Mathlib.Omega.{arith}
+use native.Mathlib.Decide.{ℕ-discrete}
+use lib.ListN.{length, getD}
+use Rattle.whole.specs.Orbit.{Steps}
+use Rattle.tables.specs.Tables.{begin, end, homeOf, nextOf, from}
+use Rattle.tables.specs.Size.{Laid}
+use Rattle.tables.specs.Places.{In, home, next-below, next-home, next-once, next-up, next-wrap, in-facet}
+use Rattle.edges.specs.Homes.{Homes}
+use Rattle.edges.specs.Chains.{leaves}
+use Rattle.pair.specs.Pair.{Paired}
+use Rattle.edges.specs.Edge.{acrossOf}
+use Rattle.pair.specs.Across.{across, across-once, across-twice, Across}
+
+unfoldable pub stepOf : List ℕ → List ℕ → ℕ → ℕ
+stepOf corners begins p = nextOf begins (acrossOf corners begins p)
+
+-- the place before p in its facet
+pub prev : {corners begins : List ℕ} → Laid corners begins → {p : ℕ} → p < length corners → (r : ℕ) × (r < length corners) × (nextOf begins r ≡ p)
+prev {corners} {begins} L {p} l = go (ℕ-discrete p (begin begins f))
+  where
+    f : ℕ
+    f = homeOf begins p
+
+    i : In begins f p
+    i = home L l
+
+    go : Dec (p ≡ begin begins f) → (r : ℕ) × (r < length corners) × (nextOf begins r ≡ p)
+    go (yes e) =
+        let j : In begins f (end begins f - 1) = record { facet = i .facet; low = omega (arith, i .low, i .high); high = omega (arith, i .high) } in
+        (end begins f - 1, in-facet L j, next-wrap L j (omega (arith, i .high)) ∙ sym e)
+    go (no d) =
+        let j : In begins f (p - 1) = record { facet = i .facet; low = omega (arith, i .low); high = omega (arith, i .high) } in
+        let e : p - 1 + 1 ≡ p = omega (arith, i .low) in
+        (p - 1, in-facet L j, next-up L j (omega (arith, i .low, i .high)) ∙ e)
+
+module _ {corners begins : List ℕ} (L : Laid corners begins) (P : Paired corners begins) where
+  pub step-below : {p : ℕ} → p < length corners → stepOf corners begins p < length corners
+  unfolding stepOf
+  step-below l = next-below L (across P l .below)
+
+  -- it stays at the vertex
+  pub step-leaves : {p : ℕ} → p < length corners → from corners (stepOf corners begins p) ≡ from corners p
+  unfolding stepOf
+  step-leaves l = across P l .ends
+
+  -- it leads to the facet across
+  pub step-home : {p : ℕ} → p < length corners → homeOf begins (stepOf corners begins p) ≡ homeOf begins (acrossOf corners begins p)
+  unfolding stepOf
+  step-home l = next-home L (across P l .below)
+
+  -- no two steps lead to one place, and one leads to each
+  pub step-once : {p q : ℕ} → p < length corners → q < length corners → stepOf corners begins p ≡ stepOf corners begins q → p ≡ q
+  unfolding stepOf
+  step-once l m e = across-once P l m (next-once L (across P l .below) (across P m .below) e)
+
+  pub step-back : {p : ℕ} → p < length corners → (q : ℕ) × (q < length corners) × (stepOf corners begins q ≡ p)
+  unfolding stepOf
+  step-back l =
+      let (r, m, e) = prev L l in
+      (acrossOf corners begins r, across P m .below, ap (nextOf begins) (across-twice P m) ∙ e)
+
+  pub steps : (v : ℕ) → Steps (leaves corners v) (length corners) (stepOf corners begins)
+  steps v = record {
+    below = λ p l e. step-below l;
+    holds = λ p l e. rw (step-leaves l) e;
+    once = λ p q l m e f. step-once l m;
+  }
+
+-- ---- what the code's tables hold: the facet of each place, and the place across each edge
+
+pub record Beyond (corners begins home across : List ℕ) : Type 0 where
+  pub homes : Homes corners begins home
+  pub crossed : Across corners begins across
+
+pub step-entry : {corners begins home across : List ℕ} {p : ℕ} → Beyond corners begins home across → p < length corners
+    → nextOf begins (getD across p 0) ≡ stepOf corners begins p
+unfolding stepOf
+step-entry {begins = begins} {p = p} B l = ap (nextOf begins) (B .crossed .filled .at p l)

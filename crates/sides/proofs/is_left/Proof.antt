@@ -1,0 +1,17 @@
+-- `sides::is_left` meets its contract. Assumes nothing.
+use borrow.Author.Needs.{needs, sfits-of}
+use mir.Facts.{toZ-ofZ}
+use Rattle.space.specs.Vectors.{_-_}
+use Rattle.sides.specs.Sides.{stepOf}
+use Rattle.sides.proofs.is_left.Statement.{statement}
+use Rattle.sides.proofs.is_left.Tie as tie
+
+returns : tie.Need-returns
+unfolding stepOf _-_
+returns c =
+    let d = c .before .determinant in
+    rw (c .is-above .ensures, toZ-ofZ (sfits-of (d .ok)), d .ensures, c .before .before .before .row .ensures .0, c .before .before .row2 .ensures .0)
+
+pub is-left-spec : {M : Type 1} → statement M
+is-left-spec =
+    tie.close (tie.spec (λ c κs. search needs) (λ c κs. search needs) (λ c κs. search needs) (λ c κs. search needs) returns)

@@ -1,0 +1,104 @@
+// Which side of a plane a point is on, and which side of an edge, by the determinant of three rows of three.
+ghost use mathlib.Core.Path.{_≡_};
+ghost use Prim.Native.Nat.{_<_};
+ghost use Rattle.space.specs.Rows.{Step, Row, longest, widest};
+ghost use Rattle.points.specs.Points.{Vertex, Ranged};
+ghost use Rattle.sides.specs.Sides.{stepOf, rowOf, normalOf, sign, sideOf, inLine, isLeft, isInside, isOn};
+
+// Coordinate k of the step from a to b.
+fn step(points: &[i32], a: u16, b: u16, k: usize) -> i64
+    requires { ⌜ Ranged (now points) × Vertex (now points) a × Vertex (now points) b × (k < 3) ⌝ }
+    ensures { λ r. ⌜ (r ≡ stepOf (now (points .entry)) a b k) × Step r ⌝ }
+{
+    points::wide(points, b as usize, k) - points::wide(points, a as usize, k)
+}
+
+// The step from a to b.
+fn row(points: &[i32], a: u16, b: u16) -> [i64; 3]
+    requires { ⌜ Ranged (now points) × Vertex (now points) a × Vertex (now points) b ⌝ }
+    ensures { λ r. ⌜ (r ≡ rowOf (now (points .entry)) a b) × Row longest r ⌝ }
+{
+    [
+        step(points, a, b, 0),
+        step(points, a, b, 1),
+        step(points, a, b, 2),
+    ]
+}
+
+// Where a point lies against a plane.
+pub enum Side {
+    Inside,
+    On,
+    Outside,
+}
+
+// The side that the sign of a six-fold volume says.
+fn sign(volume: i64) -> Side
+    ensures { λ r. ⌜ r ≡ sign volume ⌝ }
+{
+    if space::is_below(volume) {
+        return Side::Inside;
+    }
+    if space::is_above(volume) {
+        return Side::Outside;
+    }
+    Side::On
+}
+
+// Whether a side is strictly inside.
+pub fn is_inside(side: Side) -> bool
+    ensures { λ r. ⌜ r ≡ isInside side ⌝ }
+{
+    match side {
+        Side::Inside => true,
+        Side::On => false,
+        Side::Outside => false,
+    }
+}
+
+// Whether a side is on the plane.
+pub fn is_on(side: Side) -> bool
+    ensures { λ r. ⌜ r ≡ isOn side ⌝ }
+{
+    match side {
+        Side::Inside => false,
+        Side::On => true,
+        Side::Outside => false,
+    }
+}
+
+// The side of the plane through a, b and c that d is on.
+pub fn side_of(points: &[i32], a: u16, b: u16, c: u16, d: u16) -> Side
+    requires { ⌜ Ranged (now points) ⌝ }
+    requires { ⌜ Vertex (now points) a × Vertex (now points) b × Vertex (now points) c × Vertex (now points) d ⌝ }
+    ensures { λ r. ⌜ r ≡ sideOf (now (points .entry)) a b c d ⌝ }
+{
+    sign(space::determinant([row(points, a, b), row(points, a, c), row(points, a, d)]))
+}
+
+// The normal of the plane through a, b and c.
+pub fn normal(points: &[i32], a: u16, b: u16, c: u16) -> [i64; 3]
+    requires { ⌜ Ranged (now points) ⌝ }
+    requires { ⌜ Vertex (now points) a × Vertex (now points) b × Vertex (now points) c ⌝ }
+    ensures { λ r. ⌜ (r ≡ normalOf (now (points .entry)) a b c) × Row widest r ⌝ }
+{
+    space::cross(row(points, a, b), row(points, a, c))
+}
+
+// Whether a, b and c lie in line: their plane's normal is nought.
+pub fn in_line(points: &[i32], a: u16, b: u16, c: u16) -> bool
+    requires { ⌜ Ranged (now points) ⌝ }
+    requires { ⌜ Vertex (now points) a × Vertex (now points) b × Vertex (now points) c ⌝ }
+    ensures { λ r. ⌜ r ≡ inLine (now (points .entry)) a b c ⌝ }
+{
+    space::is_nought(normal(points, a, b, c))
+}
+
+// Whether c lies strictly left of the edge from a to b, seen against the normal n.
+pub fn is_left(points: &[i32], n: [i64; 3], a: u16, b: u16, c: u16) -> bool
+    requires { ⌜ Ranged (now points) × Row widest n ⌝ }
+    requires { ⌜ Vertex (now points) a × Vertex (now points) b × Vertex (now points) c ⌝ }
+    ensures { λ r. ⌜ r ≡ isLeft (now (points .entry)) n a b c ⌝ }
+{
+    space::is_above(space::determinant([n, row(points, a, b), row(points, a, c)]))
+}
