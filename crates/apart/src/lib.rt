@@ -5,9 +5,9 @@ ghost use lib.ListN.{length};
 ghost use Rattle.whole.specs.Flood.{Pushing, pushMark, pushQueue, pushTail};
 ghost use Rattle.tables.specs.Tables.{end};
 ghost use Rattle.ring.specs.Step.{Beyond};
-ghost use Rattle.apart.specs.Apart.{Turn, Spreading, Marks, apart};
+ghost use Rattle.apart.specs.Apart.{Visit, Spreading, ReachMarks, apart};
 
-// Marks facet g and puts it at the queue's end, unless it is marked already. The answer is the queue's new length.
+// ReachMarks facet g and puts it at the queue's end, unless it is marked already. The answer is the queue's new length.
 fn push(mark: &mut [u8; 2048], queue: &mut [u16; 2048], tail: usize, g: u16) -> usize
     requires { ⌜ Pushing 2048 (now mark) tail g ⌝ }
     ensures marks { λ r. ⌜ now (mark .exit) ≡ pushMark (now (mark .entry)) g ⌝ }
@@ -34,7 +34,7 @@ fn spread(
     f: usize,
     tail: usize,
 ) -> usize
-    requires { ⌜ Beyond (now corners) (now begins) (now home) (now across) × Turn (now corners) (now begins) (now mark) (now queue) tail f ⌝ }
+    requires { ⌜ Beyond (now corners) (now begins) (now home) (now across) × Visit (now corners) (now begins) (now mark) (now queue) tail f ⌝ }
     ensures { λ r. ⌜ Spreading (now (corners .entry)) (now (begins .entry)) f (end (now (begins .entry)) f) (now (mark .entry)) (now (queue .entry)) tail (now (mark .exit)) (now (queue .exit)) r ⌝ }
 {
     let mut n = tail;
@@ -50,7 +50,7 @@ fn spread(
 // A mark at each facet that is reached from facet 0 across edges.
 fn reach(corners: &[u16], begins: &[u16], home: &[u16; 6144], across: &[u16; 6144]) -> [u8; 2048]
     requires { ⌜ Beyond (now corners) (now begins) (now home) (now across) ⌝ }
-    ensures { λ r. ⌜ Marks (now (corners .entry)) (now (begins .entry)) r ⌝ }
+    ensures { λ r. ⌜ ReachMarks (now (corners .entry)) (now (begins .entry)) r ⌝ }
 {
     let mut mark = [0u8; 2048];
     let mut queue = [0u16; 2048];

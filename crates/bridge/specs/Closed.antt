@@ -15,13 +15,13 @@ use Rattle.names.specs.Rules.{repeat, unused}
 use Rattle.tables.specs.Found.{nowhere-is}
 use Rattle.tables.specs.declared.Found.the-variants.{Nothing}
 use Rattle.pair.specs.Pair.{pair, Paired, pair-none}
-use Rattle.edges.specs.Edge.{acrossOf}
+use Rattle.edges.specs.Edge.{acrossOf, facetAcross}
 use Rattle.pair.specs.Across.{across, edge-once, Matched, paired-if, means-pair}
 use Rattle.bridge.specs.Lower.{repeat-single, single-repeat, Used, unused-used, used-unused}
-use Rattle.ring.specs.Step.{stepOf, step-below, step-leaves, step-home}
+use Rattle.ring.specs.Step.{roundOf, step-below, step-leaves, step-home}
 use Rattle.ring.specs.Ring.{ring, Stepped, OneRing, ring-means, ring-from}
-use Rattle.apart.specs.Apart.{beyond, apart, Reached, apart-means, means-apart}
-use Rattle.solid.specs.Reach.{Around, here, step, Ring, Linked, self, link}
+use Rattle.apart.specs.Apart.{apart, Reached, apart-means, means-apart}
+use Rattle.solid.specs.Reach.{Around, here, hop, Ring, Linked, self, link}
 use Rattle.solid.specs.Tables.{Tables, Place, Corner, Edge, Closed, next}
 use Rattle.bridge.specs.Surface.{tablesOf, Names, Runs, place-names, place-runs, names-place, corner-names, names-corner, edge-runs, runs-edge}
 
@@ -56,12 +56,12 @@ module _ (points : List ℤ) {corners begins : List ℕ} (S : Sound (vertices po
     opposite l = runs-edge points laid (runs-across l)
 
     around : {v p : ℕ} → p < length corners → from corners p ≡ v → (j : ℕ)
-        → let q = iterate (stepOf corners begins) j p in (q < length corners) × (from corners q ≡ v) × Around (Edge T) v (homeOf begins p) (homeOf begins q)
+        → let q = iterate (roundOf corners begins) j p in (q < length corners) × (from corners q ≡ v) × Around (Edge T) v (homeOf begins p) (homeOf begins q)
     unfolding iterate
     around l e zero = (l, e, here)
     around l e (suc j) =
         let (b, s, a) = around l e j in
-        (step-below laid P b, step-leaves laid P b ∙ s, rw (step-home laid P b) (step a (rw s at (edge b)) (rw s at (opposite b))))
+        (step-below laid P b, step-leaves laid P b ∙ s, rw (step-home laid P b) (hop a (rw s at (edge b)) (rw s at (opposite b))))
 
     linked : {g : ℕ} → Reached corners begins g → Linked (Edge T) 0 g
     linked first = self
@@ -146,22 +146,22 @@ module _ (points : List ℤ) {corners begins : List ℕ} (S : Sound (vertices po
         edge-once P (r .below) (b .names .below) (r .starts ∙ a .ends ∙ sym (b .names .starts)) (r .ends ∙ a .names .starts ∙ sym (b .ends))
 
     stepped : {f g v p q : ℕ} → Names corners begins f v p → Around (Edge T) v f g → Names corners begins g v q → Stepped corners begins p q
-    unfolding iterate stepOf
+    unfolding iterate roundOf
     stepped n here m = (0, single .repeats _ _ (n .below) (m .below) (n .facet ∙ sym (m .facet)) (n .starts ∙ sym (m .starts)))
-    stepped n (step a o i) m =
+    stepped n (hop a o i) m =
         let (x, r) = edge-runs points laid o in
         let (y, t) = edge-runs points laid i in
         let (j, z) = stepped n a (r .names) in
         let b = t .names .below in
         let e = single .repeats _ _ (next-below laid b) (m .below) (next-home laid b ∙ t .names .facet ∙ sym (m .facet)) (t .ends ∙ sym (m .starts)) in
-        (suc j, ap (stepOf corners begins) z ∙ ap (nextOf begins) (crossed r t) ∙ e)
+        (suc j, ap (roundOf corners begins) z ∙ ap (nextOf begins) (crossed r t) ∙ e)
 
     unlinked : {g : ℕ} → Linked (Edge T) 0 g → Reached corners begins g
     unlinked self = first
     unlinked (link a o i) =
         let (x, r) = edge-runs points laid o in
         let (y, t) = edge-runs points laid i in
-        let k : Reached corners begins (beyond corners begins x) = arc {p = x} (rw (r .names .facet) (unlinked a)) (r .names .below) in
+        let k : Reached corners begins (facetAcross corners begins x) = arc {p = x} (rw (r .names .facet) (unlinked a)) (r .names .below) in
         rw (ap (homeOf begins) (crossed r t) ∙ t .names .facet) at k
 
   pub passes : Closed T → Passes (vertices points) corners begins

@@ -12,7 +12,7 @@ use Rattle.whole.specs.First.{any-is, any-none, any-false, firstBelow, first-ho
 use Rattle.whole.specs.Count.{is-false}
 use Rattle.points.specs.Points.{vertices}
 use Rattle.tables.specs.Tables.{facets, begin, sides, facetOf, cornerOf, homeOf, from, isAt, again}
-use Rattle.tables.specs.Size.{Laid, Sized, isSize, sized}
+use Rattle.tables.specs.Size.{Laid, SizePassed, isSize, sized}
 use Rattle.tables.specs.Places.{Sound, Single, home-is, corner-at, place-in, place-below}
 use Rattle.limits.specs.Rules.{wild, index}
 use Rattle.names.specs.Rules.{repeat, unnamed, unused}
@@ -23,7 +23,7 @@ use Rattle.pair.specs.Flat.{Position, position}
 
 -- ---- INDEX: "a corner number is V or more"
 
-pub sound : {n : ℕ} {corners begins : List ℕ} → Sized n corners begins → index n corners begins ≡ Nothing → Sound n corners begins
+pub sound : {n : ℕ} {corners begins : List ℕ} → SizePassed n corners begins → index n corners begins ≡ Nothing → Sound n corners begins
 sound {n} {corners} {begins} S e = record {
   many = S .many;
   laid = S .laid;

@@ -2,7 +2,7 @@
 use crate::numbers::natural;
 
 // The absolute value of a number that has 32 bits; 0 for any other.
-fn size(z: i64) -> usize {
+fn magnitude(z: i64) -> usize {
     if z < -4294967295 {
         return 0;
     }
@@ -20,7 +20,7 @@ fn show(z: i64) {
     if z < 0 {
         io::write_all(1, b"-");
     }
-    io::print_decimal(1, size(z) as u64);
+    io::print_decimal(1, magnitude(z) as u64);
 }
 
 fn show_short(x: u16) {

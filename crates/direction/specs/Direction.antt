@@ -5,7 +5,7 @@ use mathlib.Core.Bool.{Bool, true, false, _||_, true≢false}
 use mathlib.Core.List.{List, [], _∷_}
 use Prim.Native.Nat.{ℕ}
 use lib.IntN.{ℤ, pos, negsuc}
-use Rattle.whole.specs.Bounds.{_within_, beyond, within-beyond, not-beyond}
+use Rattle.whole.specs.Bounds.{_within_, exceeds, within-exceeds, not-exceeds}
 use Rattle.whole.specs.Count.{neither}
 use Rattle.direction.specs.declared.Direction.{Direction}
 
@@ -25,7 +25,7 @@ abbrev pub steepest : ℕ
 steepest = 32767
 
 unfoldable pub isSteep : ℤ → Bool
-isSteep part = beyond steepest part
+isSteep part = exceeds steepest part
 
 abbrev pub isWrong : Direction → Bool
 isWrong d = isSteep (d .x) || (isSteep (d .y) || isSteep (d .z))
@@ -39,13 +39,13 @@ pub record Permitted (d : Direction) : Type 0 where
 pub permitted : (d : Direction) → isWrong d ≡ false → Permitted d
 unfolding isSteep
 permitted d e =
-    let (a, b) = neither (beyond steepest (d .x)) (beyond steepest (d .y) || beyond steepest (d .z)) e in
-    let (f, g) = neither (beyond steepest (d .y)) (beyond steepest (d .z)) b in
-    record { x = within-beyond steepest (d .x) a; y = within-beyond steepest (d .y) f; z = within-beyond steepest (d .z) g }
+    let (a, b) = neither (exceeds steepest (d .x)) (exceeds steepest (d .y) || exceeds steepest (d .z)) e in
+    let (f, g) = neither (exceeds steepest (d .y)) (exceeds steepest (d .z)) b in
+    record { x = within-exceeds steepest (d .x) a; y = within-exceeds steepest (d .y) f; z = within-exceeds steepest (d .z) g }
 
 pub not-wrong : {d : Direction} → Permitted d → isWrong d ≡ false
 unfolding isSteep
-not-wrong p = rw (not-beyond (p .x), not-beyond (p .y), not-beyond (p .z))
+not-wrong p = rw (not-exceeds (p .x), not-exceeds (p .y), not-exceeds (p .z))
 
 pub wrong-exactly : (d : Direction) → isWrong d ≡ true ↔ ¬ Permitted d
 wrong-exactly d = (λ e p. true≢false (sym e ∙ not-wrong p), λ n. go (isWrong d) (λ e. n (permitted d e)))

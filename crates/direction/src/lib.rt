@@ -60,5 +60,5 @@ impl Direction {
 fn is_steep(part: i32) -> bool
     ensures { λ r. ⌜ r ≡ isSteep part ⌝ }
 {
-    points::is_beyond(part, -32767, 32767)
+    points::exceeds(part, -32767, 32767)
 }

@@ -4,7 +4,7 @@ use mathlib.Core.List.{List}
 use Prim.Native.Nat.{ℕ, _-_, _<_}
 use lib.ListN.{length, getD}
 use Rattle.whole.specs.Count.{lastBelow, last}
-use Rattle.tables.specs.Tables.{from, to}
+use Rattle.tables.specs.Tables.{homeOf, from, to}
 use native.Mathlib.Omega.{arith}
 use mathlib.Core.Bool.{Bool, _&&_}
 use lib.Dec.{eqb}
@@ -23,6 +23,10 @@ lastEdge corners begins a b = lastBelow (isEdge corners begins a b) (length corn
 -- the place of the reverse of the edge at p
 unfoldable pub acrossOf : List ℕ → List ℕ → ℕ → ℕ
 acrossOf corners begins p = lastEdge corners begins (to corners begins p) (from corners p) - 1
+
+-- the facet across the edge at place p
+abbrev pub facetAcross : List ℕ → List ℕ → ℕ → ℕ
+facetAcross corners begins p = homeOf begins (acrossOf corners begins p)
 
 pub across-is : (corners begins : List ℕ) (p : ℕ) {b q : ℕ} → q ≡ lastEdge corners begins b (from corners p) → b ≡ to corners begins p → q - 1 ≡ acrossOf corners begins p
 unfolding acrossOf

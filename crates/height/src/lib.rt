@@ -10,7 +10,7 @@ ghost use Rattle.direction.specs.Direction.{direction, steepest, Permitted};
 ghost use Rattle.height.specs.Height.{height, tallest, spot, better};
 
 // A part of a permitted direction in 64 bits.
-fn part(x: i32) -> i64
+fn wide_part(x: i32) -> i64
     requires { ⌜ x within steepest ⌝ }
     ensures { λ r. ⌜ (r ≡ x) × r within steepest ⌝ }
 {
@@ -32,12 +32,12 @@ fn height(points: &[i32], direction: direction::Direction, v: usize) -> i64
     ensures { λ r. ⌜ (r ≡ height (now (points .entry)) direction v) × r within tallest ⌝ }
 {
     sum(
-        part(direction.x),
-        part(direction.y),
-        part(direction.z),
-        points::wide(points, v, 0),
-        points::wide(points, v, 1),
-        points::wide(points, v, 2),
+        wide_part(direction.x),
+        wide_part(direction.y),
+        wide_part(direction.z),
+        points::wide_coord(points, v, 0),
+        points::wide_coord(points, v, 1),
+        points::wide_coord(points, v, 2),
     )
 }
 

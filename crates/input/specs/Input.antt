@@ -13,7 +13,7 @@ use lib.Signed.{ltZ}
 use mir.Syntax.{w64}
 use mir.Val.{SFits}
 use borrow.Author.Tests.{ltb-true}
-use Rattle.whole.specs.Bounds.{_within_, abs-neg, beyond, within-beyond, within-fits}
+use Rattle.whole.specs.Bounds.{_within_, abs-neg, exceeds, within-exceeds, within-fits}
 use Rattle.words.specs.Words.{isBlank, words, wordOf}
 use Rattle.numbers.specs.Number.{isNumber, value}
 use Rattle.numbers.specs.Reading.{most, clamp, readOf}
@@ -53,7 +53,7 @@ abbrev pub noPart : ℤ
 noPart = pos 40000
 
 abbrev pub limited : ℤ → ℤ
-limited z = cond (beyond steepest z) noPart z
+limited z = cond (exceeds steepest z) noPart z
 
 abbrev pub partOf : Read → ℤ
 partOf (Number z) = limited z
@@ -92,7 +92,7 @@ module _ (z : ℤ) where
   part-high e h = rw (e, h)
 
   pub part-within : ltZ z (negsuc 32766) ≡ false → ltZ (pos steepest) z ≡ false → z within steepest × (z ≡ limited z)
-  part-within e h = (within-beyond steepest z (rw (e, h)), rw (e, h))
+  part-within e h = (within-exceeds steepest z (rw (e, h)), rw (e, h))
 
 -- a number that is read has 64 bits
 small : (z : ℤ) → clamp z within most

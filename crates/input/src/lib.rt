@@ -50,7 +50,7 @@ pub fn start_in(input: &[u8]) -> usize
 const NO_PART: i32 = 40000;
 
 // A number as a part of the direction, or one outside the limits where it is.
-fn part(z: i64) -> i32
+fn limited(z: i64) -> i32
     ensures { λ r. ⌜ r ≡ limited z ⌝ }
 {
     if z < -32767 {
@@ -68,7 +68,7 @@ fn part_at(input: &[u8], k: usize) -> i32
 {
     let read = read_at(input, k);
     match read {
-        numbers::Read::Number(z) => part(z),
+        numbers::Read::Number(z) => limited(z),
         numbers::Read::Malformed => NO_PART,
     }
 }

@@ -56,7 +56,7 @@ fn more(n: u64, b: u8) -> u64
 }
 
 // The value of digits, or MOST where it is greater.
-fn size(s: &[u8]) -> u64
+fn value_of(s: &[u8]) -> u64
     requires { ⌜ each isDigit (now s) ≡ true ⌝ }
     ensures { λ r. ⌜ r ≡ min (decimal 0 (now (s .entry))) most ⌝ }
 {
@@ -76,7 +76,7 @@ fn read_digits(minus: bool, s: &[u8]) -> Read
     if !are_digits(s) {
         return Read::Malformed;
     }
-    let n = size(s) as i64;
+    let n = value_of(s) as i64;
     if minus {
         return Read::Number(-n);
     }

@@ -28,8 +28,8 @@ unfoldable pub coordOf : List ℤ → ℕ → ℕ → ℤ
 coordOf points i k = getD points (i * 2 + k) (pos 0)
 
 -- coordinate k of the step from point a to point b
-unfoldable pub stepOf : List ℤ → ℕ → ℕ → ℕ → ℤ
-stepOf points a b k = coordOf points b k -ℤ coordOf points a k
+unfoldable pub differenceOf : List ℤ → ℕ → ℕ → ℕ → ℤ
+differenceOf points a b k = coordOf points b k -ℤ coordOf points a k
 
 abbrev pub point : List ℤ → ℕ → Vec ℤ
 point points i = vec (coordOf points i 0) (coordOf points i 1)

@@ -145,12 +145,12 @@ module _ (points : List ℤ) (three : 3 ≤ count points) where
   unfolding ring after
   to-left h i j a b c d = elim (decLt i j) [
     | yes l ↦ leftOf j (mod-eq-of-lt b) (omega (arith, mod-eq-of-lt {n = i + 1} {m = n} (omega arith))) (omega arith)
-    | no l ↦ leftOf (j + n) (add-mod-right j n ∙ mod-eq-of-lt b) (beyond (decLt (i + 1) n)) (omega arith)
+    | no l ↦ leftOf (j + n) (add-mod-right j n ∙ mod-eq-of-lt b) (past-end (decLt (i + 1) n)) (omega arith)
   ]
     where
-      beyond : Dec (i + 1 < n) → suc i < j + n
-      beyond (yes l) = omega arith
-      beyond (no l) = let e : i + 1 ≡ n = omega arith in let z : (i + 1) % n ≡ 0 = rw e (mod-self n) in omega arith
+      past-end : Dec (i + 1 < n) → suc i < j + n
+      past-end (yes l) = omega arith
+      past-end (no l) = let e : i + 1 ≡ n = omega arith in let z : (i + 1) % n ≡ 0 = rw e (mod-self n) in omega arith
 
       -- point j, reached after edge i
       leftOf : (k : ℕ) → k % n ≡ j → suc i < k → k < i + n → LeftOf points i (after n i) j

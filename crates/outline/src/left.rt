@@ -7,13 +7,13 @@ ghost use mathlib.Core.Path.{_≡_};
 ghost use Prim.Native.Nat.{_<_};
 ghost use Rattle.whole.specs.First.{firstBelow};
 ghost use Rattle.points.specs.Range.{InRange};
-ghost use Rattle.space.specs.Rows.{Step};
-ghost use Rattle.outline.specs.Outline.{count, Point, point, stepOf, isLeft, left, notLeft};
+ghost use Rattle.space.specs.Rows.{Difference};
+ghost use Rattle.outline.specs.Outline.{count, Point, point, differenceOf, isLeft, left, notLeft};
 
 // Coordinate k of the step from point a to point b.
-fn step(points: &[i32], a: usize, b: usize, k: usize) -> i64
+fn difference(points: &[i32], a: usize, b: usize, k: usize) -> i64
     requires { ⌜ InRange (now points) × Point (now points) a × Point (now points) b × (k < 2) ⌝ }
-    ensures { λ r. ⌜ (r ≡ stepOf (now (points .entry)) a b k) × Step r ⌝ }
+    ensures { λ r. ⌜ (r ≡ differenceOf (now (points .entry)) a b k) × Difference r ⌝ }
 {
     coord(points, b, k) - coord(points, a, k)
 }
@@ -24,10 +24,10 @@ fn is_left(points: &[i32], a: usize, b: usize, c: usize) -> bool
     ensures { λ r. ⌜ r ≡ isLeft (point (now (points .entry)) a) (point (now (points .entry)) b) (point (now (points .entry)) c) ⌝ }
 {
     let turn = minor(
-        step(points, a, b, 0),
-        step(points, a, b, 1),
-        step(points, b, c, 0),
-        step(points, b, c, 1),
+        difference(points, a, b, 0),
+        difference(points, a, b, 1),
+        difference(points, b, c, 0),
+        difference(points, b, c, 1),
     );
     0 < turn
 }

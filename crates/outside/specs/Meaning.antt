@@ -26,14 +26,14 @@ use Rattle.tables.specs.Places.{part-length, sides-some, place-in, home, home-i
 use Rattle.tables.specs.Found.{NoPlace, first-none, no-place-is}
 use Rattle.tables.specs.declared.Found.the-variants.{Nothing}
 use Rattle.pair.specs.Pair.{Paired}
-use Rattle.edges.specs.Edge.{acrossOf}
+use Rattle.edges.specs.Edge.{acrossOf, facetAcross}
 use Rattle.pair.specs.Across.{across, edge-once}
 use Rattle.flat.specs.Facet.{Measured}
 use Rattle.flat.specs.Rules.{sideAt, isBent, bent, bent-later, bent-third, no-bend}
 use Rattle.turn.specs.Rules.{normalIn, strays, isTurn, turn}
 use Rattle.bridge.specs.Surface.{tablesOf, place-names, place-runs}
 use Rattle.solid.specs.Tables.{Tables, Place, Corner, next, after, normal, Flat, Outside, Reflex, Inside}
-use Rattle.reflex.specs.Rules.{isBeyond, isReflex, reflex, beyond}
+use Rattle.reflex.specs.Rules.{isNotInside, isReflex, reflex}
 use Rattle.outside.specs.Rules.{isOutside, outside}
 
 -- ---- one test
@@ -179,17 +179,17 @@ module _ (points : List ℤ) {corners begins : List ℕ} (L : Laid corners begin
     pub end : next t g j ≡ cornerOf corners begins f i
 
   module _ (P : Paired corners begins) where
-    beyond-is : {f i g j : ℕ} → Place t f i → Place t g j → Opposite f i g j → beyond corners begins (begin begins f + i) ≡ g
+    beyond-is : {f i g j : ℕ} → Place t f i → Place t g j → Opposite f i g j → facetAcross corners begins (begin begins f + i) ≡ g
     beyond-is {f} {i} {g} {j} p q o =
         let r = across P (below p) in
         let e = edge-once P (r .below) (below q) (r .starts ∙ to-is p ∙ sym (o .start) ∙ sym (from-is q)) (r .ends ∙ from-is p ∙ sym (o .end) ∙ sym (to-is q)) in
         ap (homeOf begins) e ∙ sym (home-is L (place-in L (q .facet) (q .position)))
 
     -- and there is such a position
-    opposite : {f i : ℕ} → Place t f i → (j : ℕ) × Place t (beyond corners begins (begin begins f + i)) j × Opposite f i (beyond corners begins (begin begins f + i)) j
+    opposite : {f i : ℕ} → Place t f i → (j : ℕ) × Place t (facetAcross corners begins (begin begins f + i)) j × Opposite f i (facetAcross corners begins (begin begins f + i)) j
     opposite {f} {i} p =
         let r = across P (below p) in
-        let g = beyond corners begins (begin begins f + i) in
+        let g = facetAcross corners begins (begin begins f + i) in
         let h = home L (r .below) in
         let j = acrossOf corners begins (begin begins f + i) - begin begins g in
         let s : begin begins g + j ≡ acrossOf corners begins (begin begins f + i) = omega (arith, h .low) in
@@ -197,8 +197,8 @@ module _ (points : List ℤ) {corners begins : List ℕ} (L : Laid corners begin
         (j, q, record { start = sym (from-is q) ∙ ap (from corners) s ∙ r .starts ∙ to-is p; end = sym (to-is q) ∙ ap (to corners begins) s ∙ r .ends ∙ from-is p })
 
     -- REFLEX at position i of f
-    beyond-none : (f i : ℕ) → f < facets begins → isReflex points corners begins f i ≡ false → (g : ℕ) → g < facets begins → beyond corners begins (begin begins f + i) ≡ g
-        → (m : ℕ) → m < sides begins g → isBeyond points (facetOf corners begins f) (cornerOf corners begins f i) (next t f i) (cornerOf corners begins g m) ≡ false
+    beyond-none : (f i : ℕ) → f < facets begins → isReflex points corners begins f i ≡ false → (g : ℕ) → g < facets begins → facetAcross corners begins (begin begins f + i) ≡ g
+        → (m : ℕ) → m < sides begins g → isNotInside points (facetOf corners begins f) (cornerOf corners begins f i) (next t f i) (cornerOf corners begins g m) ≡ false
     unfolding isReflex
     beyond-none f i l e g k s m h =
         rw (next-is f i l) at (any-false _ (length (facetOf corners begins g)) (rw s at e) m (omega (arith, long k)))

@@ -7,14 +7,14 @@ use native.Mathlib.Decide.{decLt}
 use native.Mathlib.Omega.{arith}
 use lib.IntN.{ℤ, pos}
 use lib.ListN.{length, getD, List·getD-eq-default}
-use Rattle.whole.specs.Bounds.{_within_, beyond, within-beyond, not-beyond}
+use Rattle.whole.specs.Bounds.{_within_, exceeds, within-exceeds, not-exceeds}
 
 abbrev pub limit : ℕ
 limit = 8191
 
 -- "a coordinate is outside its limits"
 unfoldable pub isOut : ℤ → Bool
-isOut x = beyond limit x
+isOut x = exceeds limit x
 
 -- each number of a run is within its limits
 abbrev pub InRange : List ℤ → Type 0
@@ -22,11 +22,11 @@ InRange run = (k : ℕ) → getD run k (pos 0) within limit
 
 pub in-range : (x : ℤ) → isOut x ≡ false → x within limit
 unfolding isOut
-in-range x e = within-beyond limit x e
+in-range x e = within-exceeds limit x e
 
 pub not-out : (x : ℤ) → x within limit → isOut x ≡ false
 unfolding isOut
-not-out x h = not-beyond h
+not-out x h = not-exceeds h
 
 pub all-in : (run : List ℤ) → ((k : ℕ) → k < length run → isOut (getD run k (pos 0)) ≡ false) → InRange run
 all-in run h k = cases (decLt k (length run))

@@ -10,7 +10,7 @@ ghost use Rattle.points.specs.Range.{limit, isOut, InRange};
 ghost use Rattle.points.specs.Points.{Vertex, Ranged, coordOf};
 
 // Whether a number is outside least to most.
-pub fn is_beyond(x: i32, least: i32, most: i32) -> bool
+pub fn exceeds(x: i32, least: i32, most: i32) -> bool
     ensures { λ r. ⌜ r ≡ (ltZ x least || ltZ most x) ⌝ }
 {
     if x < least {
@@ -23,7 +23,7 @@ pub fn is_beyond(x: i32, least: i32, most: i32) -> bool
 pub fn is_out(x: i32) -> bool
     ensures { λ r. ⌜ r ≡ isOut x ⌝ }
 {
-    is_beyond(x, -8191, 8191)
+    exceeds(x, -8191, 8191)
 }
 
 // A number in 64 bits.
@@ -50,7 +50,7 @@ pub fn coord(points: &[i32], v: usize, k: usize) -> i32
 }
 
 // The same in 64 bits.
-pub fn wide(points: &[i32], v: usize, k: usize) -> i64
+pub fn wide_coord(points: &[i32], v: usize, k: usize) -> i64
     requires { ⌜ Ranged (now points) × Vertex (now points) v × (k < 3) ⌝ }
     ensures { λ r. ⌜ (r ≡ coordOf (now (points .entry)) v k) × r within limit ⌝ }
 {

@@ -8,7 +8,7 @@ use lib.Dec.{ltb}
 use lib.IntN.{ℤ, pos, negsuc}
 use lib.ListN.{length}
 use borrow.Author.Tests.{ltb-false, le-ltb}
-use Rattle.whole.specs.Bounds.{_within_, within-≤, not-beyond, beyond}
+use Rattle.whole.specs.Bounds.{_within_, within-≤, not-exceeds, exceeds}
 use Rattle.whole.specs.Count.{neither}
 use Rattle.tables.specs.Tables.{mostVertices}
 use Rattle.words.specs.Words.{isBlank, words, wordOf}
@@ -46,39 +46,39 @@ module _ {v : ℕ} (few : v ≤ mostVertices) where
 -- ---- a part: a word that is a number within the limits stands for it, and every other for a number outside them
 
 pub says-part : {word : List ℕ} {z : ℤ} → Says word z → z within steepest → partOf (readOf word) ≡ z
-says-part {word} {z} s h = rw (s .is-number, s .is-value, clamp-is (within-≤ h (omega arith)), not-beyond h)
+says-part {word} {z} s h = rw (s .is-number, s .is-value, clamp-is (within-≤ h (omega arith)), not-exceeds h)
 
 pub part-says : (word : List ℕ) → partOf (readOf word) within steepest → Says word (partOf (readOf word))
 part-says word h = go (isNumber word) refl h
   where
-    kept : (z : ℤ) (t : Bool) → beyond steepest z ≡ t → cond t noPart z within steepest → (z within steepest) × (cond t noPart z ≡ z)
+    kept : (z : ℤ) (t : Bool) → exceeds steepest z ≡ t → cond t noPart z within steepest → (z within steepest) × (cond t noPart z ≡ z)
     kept z true e h = absurd (omega (arith, h .abs))
     kept z false e h = (h, refl)
 
     go : (t : Bool) → isNumber word ≡ t → partOf (cond t (Number (clamp (value word))) Malformed) within steepest
         → Says word (partOf (cond t (Number (clamp (value word))) Malformed))
     go true e h =
-        let (k, q) = kept (clamp (value word)) (beyond steepest (clamp (value word))) refl h in
+        let (k, q) = kept (clamp (value word)) (exceeds steepest (clamp (value word))) refl h in
         record { is-number = e; is-value = sym (q ∙ within-clamp (value word) {N = steepest} (omega arith) k .1) }
     go false e h = absurd (omega (arith, h .abs))
 
 -- ---- the direction
 
 -- "up to 256 bytes", no fifth word, and the second to fourth words are numbers within the limits
-pub record Named (input : List ℕ) (x y z : ℤ) : Type 0 where
+pub record NamesDirection (input : List ℕ) (x y z : ℤ) : Type 0 where
   pub short : length input ≤ longest
   pub four : length (words isBlank (split input)) ≤ 4
   pub says-x : Says (wordOf isBlank (split input) 1) x
   pub says-y : Says (wordOf isBlank (split input) 2) y
   pub says-z : Says (wordOf isBlank (split input) 3) z
 
-pub named-direction : {input : List ℕ} {x y z : ℤ} → Named input x y z → Permitted (direction x y z) → directionIn input ≡ direction x y z
+pub named-direction : {input : List ℕ} {x y z : ℤ} → NamesDirection input x y z → Permitted (direction x y z) → directionIn input ≡ direction x y z
 unfolding directionIn
 named-direction {input} n p =
     rw (le-ltb longest (length input) (n .short), le-ltb 4 (length (words isBlank (split input))) (n .four), says-part (n .says-x) (p .x), says-part (n .says-y) (p .y), says-part (n .says-z) (p .z))
 
 -- every other input is 14: its direction is not permitted
-pub direction-named : (input : List ℕ) → Permitted (directionIn input) → let d = directionIn input in Named input (d .x) (d .y) (d .z)
+pub direction-named : (input : List ℕ) → Permitted (directionIn input) → let d = directionIn input in NamesDirection input (d .x) (d .y) (d .z)
 unfolding directionIn
 direction-named input p = go (isCrowded input) refl p
   where
@@ -87,7 +87,7 @@ direction-named input p = go (isCrowded input) refl p
 
     go : (t : Bool) → isCrowded input ≡ t
         → Permitted (cond t (direction noPart noPart noPart) (direction (other input 1) (other input 2) (other input 3)))
-        → let d = cond t (direction noPart noPart noPart) (direction (other input 1) (other input 2) (other input 3)) in Named input (d .x) (d .y) (d .z)
+        → let d = cond t (direction noPart noPart noPart) (direction (other input 1) (other input 2) (other input 3)) in NamesDirection input (d .x) (d .y) (d .z)
     go true e p = absurd (omega (arith, p .x .abs))
     go false e p =
         let (a, b) = neither (ltb longest (length input)) (ltb 4 (length (words isBlank (split input)))) e in

@@ -11,8 +11,8 @@ use Rattle.whole.specs.Over.{Wrote, wrote-none, stored, over, take-over}
 use Rattle.tape.specs.Reading.{place, numbersAt, facetFrom, cornersAt, beginsAt}
 use Rattle.tape.specs.Whole.{Facets, place-0, place-more, corners-more, length-from, facet-inside, facet-short}
 
--- what the record of this turn has: s holds it whole, and the tables have room for it
-pub record Turn (s : List ℕ) (at c f : ℕ) : Type 0 where
+-- what the record of this reads-facet has: s holds it whole, and the tables have room for it
+pub record ReadsFacet (s : List ℕ) (at c f : ℕ) : Type 0 where
   pub narrow : getD s at 0 ≤ mostSides
   pub inside : at + (1 + 2 * getD s at 0) ≤ length s
   pub short : c + getD s at 0 ≤ mostCorners
@@ -47,8 +47,8 @@ by-tray s i n tray corners c e q =
 module _ {s : List ℕ} {from n : ℕ} {corners₀ begins₀ corners begins tray : List ℕ} {at c f : ℕ}
     (w : Filling s from n corners₀ begins₀ corners begins tray at c f) (h : Facets s from n) (room : mostCorners ≤ length corners₀) (last : n < length begins₀)
   where
-    pub turn : f < n → Turn s at c f
-    turn l = rw (w .here, w .count) (record {
+    pub reads-facet : f < n → ReadsFacet s at c f
+    reads-facet l = rw (w .here, w .count) (record {
       narrow = h .most f l;
       inside = facet-inside h l;
       short = facet-short h l;
@@ -64,7 +64,7 @@ module _ {s : List ℕ} {from n : ℕ} {corners₀ begins₀ corners begins tray
     pub filling-more : {new tray′ : List ℕ} → f < n → new ≡ sets corners c (numbersAt s (at + 1) (getD s at 0)) → mostSides ≡ length tray′
         → Filling s from n corners₀ begins₀ new (set begins f c) tray′ (at + (1 + 2 * getD s at 0)) (c + getD s at 0) (f + 1)
     filling-more {new} l q e =
-        let t = turn l in
+        let t = reads-facet l in
         record {
           upto = omega arith;
           here = rw (w .here) (sym (place-more s from f));

@@ -10,28 +10,24 @@ use Rattle.sides.specs.Sides.{isInside}
 use Rattle.tables.specs.Tables.{facets, begin, sides, facetOf, nextPosition, homeOf}
 use Rattle.tables.specs.Found.{firstPlace}
 use Rattle.tables.specs.declared.Found.{Found}
-use Rattle.edges.specs.Edge.{acrossOf}
+use Rattle.edges.specs.Edge.{acrossOf, facetAcross}
 use Rattle.flat.specs.Rules.{sideAt}
 
 -- corner c, "other than the edge's ends, isn't strictly inside this facet's plane"
-abbrev pub isBeyond : List ℤ → List ℕ → ℕ → ℕ → ℕ → Bool
-isBeyond points part a b c = cond (eqb c a) false (cond (eqb c b) false (not (isInside (sideAt points part c))))
+abbrev pub isNotInside : List ℤ → List ℕ → ℕ → ℕ → ℕ → Bool
+isNotInside points part a b c = cond (eqb c a) false (cond (eqb c b) false (not (isInside (sideAt points part c))))
 
 -- "some corner of the facet across this edge": of the part `other`, the edge going from a to b
-abbrev pub someBeyond : List ℤ → List ℕ → List ℕ → ℕ → ℕ → Bool
-someBeyond points part other a b = anyBelow (λ r. isBeyond points part a b (getD other r 0)) (length other)
+abbrev pub someNotInside : List ℤ → List ℕ → List ℕ → ℕ → ℕ → Bool
+someNotInside points part other a b = anyBelow (λ r. isNotInside points part a b (getD other r 0)) (length other)
 
 -- the edge at position p of a part
 abbrev pub reflexAt : List ℤ → List ℕ → List ℕ → ℕ → Bool
-reflexAt points part other p = someBeyond points part other (getD part p 0) (getD part (nextPosition (length part) p) 0)
-
--- the facet across the edge at place q
-abbrev pub beyond : List ℕ → List ℕ → ℕ → ℕ
-beyond corners begins q = homeOf begins (acrossOf corners begins q)
+reflexAt points part other p = someNotInside points part other (getD part p 0) (getD part (nextPosition (length part) p) 0)
 
 unfoldable pub isReflex : List ℤ → List ℕ → List ℕ → ℕ → ℕ → Bool
 isReflex points corners begins f p =
-    reflexAt points (facetOf corners begins f) (facetOf corners begins (beyond corners begins (begin begins f + p))) p
+    reflexAt points (facetOf corners begins f) (facetOf corners begins (facetAcross corners begins (begin begins f + p))) p
 
 abbrev pub reflex : List ℤ → List ℕ → List ℕ → Found
 reflex points corners begins = firstPlace (facets begins) (sides begins) (isReflex points corners begins)

@@ -8,12 +8,13 @@ ghost use Rattle.tables.specs.Tables.{facets, sides, facetOf};
 ghost use Rattle.edges.specs.Homes.{Homes};
 ghost use Rattle.pair.specs.Across.{Across};
 ghost use Rattle.flat.specs.Facet.{Facet, Measured};
-ghost use Rattle.reflex.specs.Rules.{isBeyond, someBeyond, reflexAt, beyond, isReflex, reflex};
+ghost use Rattle.reflex.specs.Rules.{isNotInside, someNotInside, reflexAt, isReflex, reflex};
+ghost use Rattle.edges.specs.Edge.{facetAcross};
 
 // Whether corner c, other than a and b, is not strictly inside a facet's plane.
-fn is_beyond(points: &[i32], part: &[u16], a: u16, b: u16, c: u16) -> bool
+fn is_not_inside(points: &[i32], part: &[u16], a: u16, b: u16, c: u16) -> bool
     requires { ⌜ Facet (now points) (now part) × Vertex (now points) c ⌝ }
-    ensures { λ r. ⌜ r ≡ isBeyond (now (points .entry)) (now (part .entry)) a b c ⌝ }
+    ensures { λ r. ⌜ r ≡ isNotInside (now (points .entry)) (now (part .entry)) a b c ⌝ }
 {
     if c == a {
         return false;
@@ -25,13 +26,13 @@ fn is_beyond(points: &[i32], part: &[u16], a: u16, b: u16, c: u16) -> bool
 }
 
 // Whether some corner of a facet's part `other`, other than a and b, is not strictly inside a facet's plane.
-fn some_beyond(points: &[i32], part: &[u16], other: &[u16], a: u16, b: u16) -> bool
+fn some_not_inside(points: &[i32], part: &[u16], other: &[u16], a: u16, b: u16) -> bool
     requires { ⌜ Facet (now points) (now part) × Facet (now points) (now other) ⌝ }
-    ensures { λ r. ⌜ r ≡ someBeyond (now (points .entry)) (now (part .entry)) (now (other .entry)) a b ⌝ }
+    ensures { λ r. ⌜ r ≡ someNotInside (now (points .entry)) (now (part .entry)) (now (other .entry)) a b ⌝ }
 {
     let mut r = 0;
     while r < other.len() {
-        if is_beyond(points, part, a, b, other[r]) {
+        if is_not_inside(points, part, a, b, other[r]) {
             return true;
         }
         r += 1;
@@ -45,7 +46,7 @@ fn is_reflex(points: &[i32], part: &[u16], other: &[u16], p: usize) -> bool
     ensures { λ r. ⌜ r ≡ reflexAt (now (points .entry)) (now (part .entry)) (now (other .entry)) p ⌝ }
 {
     let on = tables::next_position(part.len(), p);
-    some_beyond(points, part, other, part[p], part[on])
+    some_not_inside(points, part, other, part[p], part[on])
 }
 
 // The part of the run that has the corners of the facet across the edge at place q.
@@ -57,7 +58,7 @@ fn part_across<'a>(
     q: usize,
 ) -> &'a [u16]
     requires { ⌜ Homes (now corners) (now begins) (now home) × Across (now corners) (now begins) (now across) × (q < length (now corners)) ⌝ }
-    ensures { λ r. ⌜ now r ≡ facetOf (now (corners .entry)) (now (begins .entry)) (beyond (now (corners .entry)) (now (begins .entry)) q) ⌝ }
+    ensures { λ r. ⌜ now r ≡ facetOf (now (corners .entry)) (now (begins .entry)) (facetAcross (now (corners .entry)) (now (begins .entry)) q) ⌝ }
 {
     let other = tables::wide(across[q]);
     tables::part(corners, begins, tables::wide(home[other]))

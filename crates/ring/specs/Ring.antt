@@ -20,7 +20,7 @@ use Rattle.tables.specs.declared.Found.{Found}
 use Rattle.tables.specs.declared.Found.the-variants.{Nothing}
 use Rattle.edges.specs.Chains.{leaves, lastOf}
 use Rattle.pair.specs.Pair.{Paired}
-use Rattle.ring.specs.Step.{stepOf, steps}
+use Rattle.ring.specs.Step.{roundOf, steps}
 
 -- how many edges leave v, and the last place of one: there stepping starts
 abbrev pub degree : List ℕ → ℕ → ℕ
@@ -31,7 +31,7 @@ start corners v = lastOf corners (length corners) v - 1
 
 -- after i + 1 steps from p it is p again
 abbrev pub backAt : List ℕ → List ℕ → ℕ → ℕ → Bool
-backAt corners begins p i = eqb (iterate (stepOf corners begins) (i + 1) p) p
+backAt corners begins p i = eqb (iterate (roundOf corners begins) (i + 1) p) p
 
 -- stepping comes back before each edge that leaves v was met
 abbrev pub broken : List ℕ → List ℕ → ℕ → Bool
@@ -44,7 +44,7 @@ ring n corners begins = lowest n (broken corners begins)
 
 -- q is reached from p by steps
 abbrev pub Stepped : List ℕ → List ℕ → ℕ → ℕ → Type 0
-Stepped corners begins p q = (j : ℕ) × (iterate (stepOf corners begins) j p ≡ q)
+Stepped corners begins p q = (j : ℕ) × (iterate (roundOf corners begins) j p ≡ q)
 
 -- the facets at v make one ring: each place that leaves v is reached by steps from each
 pub record OneRing (corners begins : List ℕ) (v : ℕ) : Type 0 where
@@ -66,7 +66,7 @@ degree-some : (corners : List ℕ) (v : ℕ) {q : ℕ} → q < length corners �
 degree-some corners v {q} l s = omega (arith, count-but (leaves corners v) q (length corners) l (eq-eqb _ _ s))
 
 module _ {corners begins : List ℕ} (L : Laid corners begins) (P : Paired corners begins) (v : ℕ) where
-  S : Steps (leaves corners v) (length corners) (stepOf corners begins)
+  S : Steps (leaves corners v) (length corners) (roundOf corners begins)
   S = steps L P v
 
   -- where RING doesn't apply at v, its facets make one ring
@@ -76,17 +76,17 @@ module _ {corners begins : List ℕ} (L : Laid corners begins) (P : Paired corne
       k : ℕ
       k = degree corners v
 
-      no-return : NoReturn (stepOf corners begins) (start corners v) k
+      no-return : NoReturn (roundOf corners begins) (start corners v) k
       no-return j a b r =
           let s : j - 1 + 1 ≡ j = omega arith in
           let n = any-false (backAt corners begins (start corners v)) (k - 1) e (j - 1) (omega arith) in
-          eqb-false _ _ n (ap (λ i. iterate (stepOf corners begins) i (start corners v)) s ∙ r)
+          eqb-false _ _ n (ap (λ i. iterate (roundOf corners begins) i (start corners v)) s ∙ r)
 
       met : (p q : ℕ) → p < length corners → q < length corners → from corners p ≡ v → from corners q ≡ v → Stepped corners begins p q
       met p q l m s t =
           let z = started corners v (degree-some corners v l s) in
           let (i, c, d) = reached S (z .below) (z .leaving) (le-refl k) no-return p l (eq-eqb _ _ s) in
-          let again : NoReturn (stepOf corners begins) p k = λ j a b r. no-return j a b (return-first S (z .below) (z .leaving) j i (rw d r)) in
+          let again : NoReturn (roundOf corners begins) p k = λ j a b r. no-return j a b (return-first S (z .below) (z .leaving) j i (rw d r)) in
           let (j, b, x) = reached S l (eq-eqb _ _ s) (le-refl k) again q m (eq-eqb _ _ t) in
           (j, x)
 
@@ -98,11 +98,11 @@ module _ {corners begins : List ℕ} (L : Laid corners begins) (P : Paired corne
       back : ℕ → Bool
       back = backAt corners begins (start corners v)
 
-      early : (i : ℕ) → i < degree corners v - 1 → iterate (stepOf corners begins) (i + 1) (start corners v) ≡ start corners v → ⊥
+      early : (i : ℕ) → i < degree corners v - 1 → iterate (roundOf corners begins) (i + 1) (start corners v) ≡ start corners v → ⊥
       early i b r =
           let z = started corners v (degree-some corners v l s) in
           let (k, d) = all (start corners v) (z .below) (eqb-true _ _ (z .leaving)) in
-          missed (leaves corners v) (length corners) (stepOf corners begins) p {j = i + 1} (omega arith) (omega arith)
+          missed (leaves corners v) (length corners) (roundOf corners begins) p {j = i + 1} (omega arith) (omega arith)
           (return-first S l (eq-eqb _ _ s) (i + 1) k (rw d r)) (λ q m t. all q m (eqb-true _ _ t))
 
   pub ring-one : OneRing corners begins v → broken corners begins v ≡ false

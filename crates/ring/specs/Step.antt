@@ -15,8 +15,8 @@ use Rattle.pair.specs.Pair.{Paired}
 use Rattle.edges.specs.Edge.{acrossOf}
 use Rattle.pair.specs.Across.{across, across-once, across-twice, Across}
 
-unfoldable pub stepOf : List ℕ → List ℕ → ℕ → ℕ
-stepOf corners begins p = nextOf begins (acrossOf corners begins p)
+unfoldable pub roundOf : List ℕ → List ℕ → ℕ → ℕ
+roundOf corners begins p = nextOf begins (acrossOf corners begins p)
 
 -- the place before p in its facet
 pub prev : {corners begins : List ℕ} → Laid corners begins → {p : ℕ} → p < length corners → (r : ℕ) × (r < length corners) × (nextOf begins r ≡ p)
@@ -38,32 +38,32 @@ prev {corners} {begins} L {p} l = go (ℕ-discrete p (begin begins f))
         (p - 1, in-facet L j, next-up L j (omega (arith, i .low, i .high)) ∙ e)
 
 module _ {corners begins : List ℕ} (L : Laid corners begins) (P : Paired corners begins) where
-  pub step-below : {p : ℕ} → p < length corners → stepOf corners begins p < length corners
-  unfolding stepOf
+  pub step-below : {p : ℕ} → p < length corners → roundOf corners begins p < length corners
+  unfolding roundOf
   step-below l = next-below L (across P l .below)
 
   -- it stays at the vertex
-  pub step-leaves : {p : ℕ} → p < length corners → from corners (stepOf corners begins p) ≡ from corners p
-  unfolding stepOf
+  pub step-leaves : {p : ℕ} → p < length corners → from corners (roundOf corners begins p) ≡ from corners p
+  unfolding roundOf
   step-leaves l = across P l .ends
 
   -- it leads to the facet across
-  pub step-home : {p : ℕ} → p < length corners → homeOf begins (stepOf corners begins p) ≡ homeOf begins (acrossOf corners begins p)
-  unfolding stepOf
+  pub step-home : {p : ℕ} → p < length corners → homeOf begins (roundOf corners begins p) ≡ homeOf begins (acrossOf corners begins p)
+  unfolding roundOf
   step-home l = next-home L (across P l .below)
 
   -- no two steps lead to one place, and one leads to each
-  pub step-once : {p q : ℕ} → p < length corners → q < length corners → stepOf corners begins p ≡ stepOf corners begins q → p ≡ q
-  unfolding stepOf
+  pub step-once : {p q : ℕ} → p < length corners → q < length corners → roundOf corners begins p ≡ roundOf corners begins q → p ≡ q
+  unfolding roundOf
   step-once l m e = across-once P l m (next-once L (across P l .below) (across P m .below) e)
 
-  pub step-back : {p : ℕ} → p < length corners → (q : ℕ) × (q < length corners) × (stepOf corners begins q ≡ p)
-  unfolding stepOf
+  pub step-back : {p : ℕ} → p < length corners → (q : ℕ) × (q < length corners) × (roundOf corners begins q ≡ p)
+  unfolding roundOf
   step-back l =
       let (r, m, e) = prev L l in
       (acrossOf corners begins r, across P m .below, ap (nextOf begins) (across-twice P m) ∙ e)
 
-  pub steps : (v : ℕ) → Steps (leaves corners v) (length corners) (stepOf corners begins)
+  pub steps : (v : ℕ) → Steps (leaves corners v) (length corners) (roundOf corners begins)
   steps v = record {
     below = λ p l e. step-below l;
     holds = λ p l e. rw (step-leaves l) e;
@@ -77,6 +77,6 @@ pub record Beyond (corners begins home across : List ℕ) : Type 0 where
   pub crossed : Across corners begins across
 
 pub step-entry : {corners begins home across : List ℕ} {p : ℕ} → Beyond corners begins home across → p < length corners
-    → nextOf begins (getD across p 0) ≡ stepOf corners begins p
-unfolding stepOf
+    → nextOf begins (getD across p 0) ≡ roundOf corners begins p
+unfolding roundOf
 step-entry {begins = begins} {p = p} B l = ap (nextOf begins) (B .crossed .filled .at p l)

@@ -12,19 +12,19 @@ use Rattle.whole.specs.Orbit.{iterate, iterate-more}
 use Rattle.tables.specs.Size.{Laid}
 use Rattle.edges.specs.Chains.{leaves, Chains, Met, met-0, met-more, met-all}
 use Rattle.pair.specs.Pair.{Paired}
-use Rattle.ring.specs.Step.{stepOf, step-below}
+use Rattle.ring.specs.Step.{roundOf, step-below}
 use Rattle.ring.specs.Ring.{start, backAt, broken}
 
 -- after i steps from p, none of which led back, it stands at q; the chain has i + 1 places before link k
 pub record Turning (corners begins : List ℕ) (v p q k : ℕ) : Type 0 where
   pub i : ℕ
   pub first : p ≡ start corners v
-  pub at : q ≡ iterate (stepOf corners begins) i p
+  pub at : q ≡ iterate (roundOf corners begins) i p
   pub below : q < length corners
   pub none : None (backAt corners begins p) i
   pub met : Met corners v (leaves corners v) (i + 1) k
 
-next-at : {corners begins : List ℕ} {v p q k r : ℕ} (T : Turning corners begins v p q k) → r ≡ stepOf corners begins q → r ≡ iterate (stepOf corners begins) (T .i + 1) p
+next-at : {corners begins : List ℕ} {v p q k r : ℕ} (T : Turning corners begins v p q k) → r ≡ roundOf corners begins q → r ≡ iterate (roundOf corners begins) (T .i + 1) p
 next-at T s = rw (iterate-more, ← T .at) s
 
 module _ {corners last back : List ℕ} (C : Chains corners last back (length corners)) {v : ℕ} where
@@ -43,7 +43,7 @@ module _ {corners last back : List ℕ} (C : Chains corners last back (length co
       let n = met-all (met-0 C (λ p x. x) l) (omega arith) in
       any-miss (none-0 _) (omega arith) (omega arith)
 
-  pub turning-more : {begins : List ℕ} {p q k r : ℕ} → Turning corners begins v p q k → Laid corners begins → Paired corners begins → 0 < k → r ≡ stepOf corners begins q → (r ≡ p → ⊥)
+  pub turning-more : {begins : List ℕ} {p q k r : ℕ} → Turning corners begins v p q k → Laid corners begins → Paired corners begins → 0 < k → r ≡ roundOf corners begins q → (r ≡ p → ⊥)
       → Turning corners begins v p r (getD back (k - 1) 0)
   turning-more T L P h s d = record {
     i = T .i + 1;
@@ -55,7 +55,7 @@ module _ {corners last back : List ℕ} (C : Chains corners last back (length co
   }
 
 module _ {corners begins : List ℕ} {v p q k : ℕ} (T : Turning corners begins v p q k) where
-  pub turning-back : {r : ℕ} → 0 < k → r ≡ stepOf corners begins q → r ≡ p → true ≡ broken corners begins v
+  pub turning-back : {r : ℕ} → 0 < k → r ≡ roundOf corners begins q → r ≡ p → true ≡ broken corners begins v
   turning-back h s e =
       let f = leaves corners v in
       let c = count-but f (k - 1) k (omega arith) (eq-eqb _ _ (T .met .on .leads h)) in

@@ -3,11 +3,11 @@ ghost use mathlib.Core.Path.{_≡_};
 ghost use Prim.Native.Nat.{_≤_, _<_};
 ghost use lib.ListN.{length};
 ghost use Rattle.edges.specs.Chains.{Chains};
-ghost use Rattle.ring.specs.Step.{stepOf, Beyond};
+ghost use Rattle.ring.specs.Step.{roundOf, Beyond};
 ghost use Rattle.ring.specs.Ring.{broken, ring};
 
 // The step round a vertex from place p: across the edge that leaves it, and on to the next of that facet.
-fn step(
+fn round(
     corners: &[u16],
     begins: &[u16],
     home: &[u16; 6144],
@@ -15,7 +15,7 @@ fn step(
     p: usize,
 ) -> usize
     requires { ⌜ Beyond (now corners) (now begins) (now home) (now across) × (p < length (now corners)) ⌝ }
-    ensures { λ r. ⌜ r ≡ stepOf (now (corners .entry)) (now (begins .entry)) p ⌝ }
+    ensures { λ r. ⌜ r ≡ roundOf (now (corners .entry)) (now (begins .entry)) p ⌝ }
 {
     let q = tables::wide(across[p]);
     edges::next_in(begins, tables::wide(home[q]), q)
@@ -42,7 +42,7 @@ fn broken(
     let mut q = p;
     let mut k = tables::wide(back[p]);
     while 0 < k {
-        q = step(corners, begins, home, across, q);
+        q = round(corners, begins, home, across, q);
         if q == p {
             return true;
         }

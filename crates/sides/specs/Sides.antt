@@ -16,12 +16,12 @@ use lib.Signed.{_<ℤ_}
 use Rattle.whole.specs.Order.{ltZ-true, true-ltZ}
 
 -- coordinate k of b - a
-unfoldable pub stepOf : List ℤ → ℕ → ℕ → ℕ → ℤ
-stepOf points a b k = coordOf points b k -ℤ coordOf points a k
+unfoldable pub differenceOf : List ℤ → ℕ → ℕ → ℕ → ℤ
+differenceOf points a b k = coordOf points b k -ℤ coordOf points a k
 
 -- b - a
 abbrev pub rowOf : List ℤ → ℕ → ℕ → List ℤ
-rowOf points a b = listOf (vec (stepOf points a b 0) (stepOf points a b 1) (stepOf points a b 2))
+rowOf points a b = listOf (vec (differenceOf points a b 0) (differenceOf points a b 1) (differenceOf points a b 2))
 
 -- "The six-fold volume of points a, b, c, d is the determinant of three rows: b-a, c-a, d-a"
 abbrev pub volume : List ℤ → ℕ → ℕ → ℕ → ℕ → ℤ

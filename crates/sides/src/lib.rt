@@ -1,16 +1,16 @@
 // Which side of a plane a point is on, and which side of an edge, by the determinant of three rows of three.
 ghost use mathlib.Core.Path.{_≡_};
 ghost use Prim.Native.Nat.{_<_};
-ghost use Rattle.space.specs.Rows.{Step, Row, longest, widest};
+ghost use Rattle.space.specs.Rows.{Difference, Row, longest, widest};
 ghost use Rattle.points.specs.Points.{Vertex, Ranged};
-ghost use Rattle.sides.specs.Sides.{stepOf, rowOf, normalOf, sign, sideOf, inLine, isLeft, isInside, isOn};
+ghost use Rattle.sides.specs.Sides.{differenceOf, rowOf, normalOf, sign, sideOf, inLine, isLeft, isInside, isOn};
 
 // Coordinate k of the step from a to b.
-fn step(points: &[i32], a: u16, b: u16, k: usize) -> i64
+fn difference(points: &[i32], a: u16, b: u16, k: usize) -> i64
     requires { ⌜ Ranged (now points) × Vertex (now points) a × Vertex (now points) b × (k < 3) ⌝ }
-    ensures { λ r. ⌜ (r ≡ stepOf (now (points .entry)) a b k) × Step r ⌝ }
+    ensures { λ r. ⌜ (r ≡ differenceOf (now (points .entry)) a b k) × Difference r ⌝ }
 {
-    points::wide(points, b as usize, k) - points::wide(points, a as usize, k)
+    points::wide_coord(points, b as usize, k) - points::wide_coord(points, a as usize, k)
 }
 
 // The step from a to b.
@@ -19,9 +19,9 @@ fn row(points: &[i32], a: u16, b: u16) -> [i64; 3]
     ensures { λ r. ⌜ (r ≡ rowOf (now (points .entry)) a b) × Row longest r ⌝ }
 {
     [
-        step(points, a, b, 0),
-        step(points, a, b, 1),
-        step(points, a, b, 2),
+        difference(points, a, b, 0),
+        difference(points, a, b, 1),
+        difference(points, a, b, 2),
     ]
 }
 

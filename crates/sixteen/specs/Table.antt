@@ -17,7 +17,7 @@ use Rattle.tables.specs.Size.{isSize}
 use Rattle.answers.specs.Answer.{accepted, refused}
 use Rattle.answers.specs.declared.Answer.{Answer}
 use Rattle.edges.specs.Edge.{acrossOf}
-use Rattle.ring.specs.Step.{stepOf}
+use Rattle.ring.specs.Step.{roundOf}
 use Rattle.apart.specs.Apart.{flooded}
 use Rattle.flat.specs.Rules.{isBent}
 use Rattle.turn.specs.Rules.{isTurn}
@@ -44,21 +44,21 @@ use Rattle.writer.specs.Answer.{written, bufferAfter}
 -- ---- what can be asked, and what is answered
 
 -- the three tables of a solid
-pub record Tables : Type 0 where
+pub record Drawn : Type 0 where
   pub points : List ℤ
   pub corners : List ℕ
   pub begins : List ℕ
 
-abbrev pub tables : List ℤ → List ℕ → List ℕ → Tables
+abbrev pub tables : List ℤ → List ℕ → List ℕ → Drawn
 tables points corners begins = record { points = points; corners = corners; begins = begins }
 
 -- the walk is asked with a direction, a start and a lent trail, the writer with a lent buffer, the reader with a tape and lent tables
 pub data Question : Type 0 where
-  judge : Tables → Question
-  walk : Tables → Direction → ℕ → List ℕ → Question
+  judge : Drawn → Question
+  walk : Drawn → Direction → ℕ → List ℕ → Question
   outline : List ℤ → Question
-  write : Tables → List ℕ → Question
-  read : List ℕ → Tables → Question
+  write : Drawn → List ℕ → Question
+  read : List ℕ → Drawn → Question
 
 -- the answer, and what the lent trail, buffer or tables then hold
 pub data Reply : Type 0 where
@@ -66,7 +66,7 @@ pub data Reply : Type 0 where
   ofWalk : Walked → List ℕ → Reply
   ofOutline : Verdict → Reply
   ofWriter : Answer → List ℕ → Reply
-  ofReader : Reading → Tables → Reply
+  ofReader : Reading → Drawn → Reply
 
 -- what the functions promise to answer
 abbrev pub answer : Question → Reply
@@ -110,20 +110,20 @@ vertices x z = xyz (pos 0) (pos 0) (pos 0) ++ xyz x (pos 0) (pos 0) ++ xyz (pos 
 abbrev three : List ℕ
 three = facet 0 2 1 ++ facet 0 1 3 ++ facet 0 3 2
 
-abbrev T : Tables
+abbrev T : Drawn
 T = tables (vertices (pos 1) (pos 1)) (three ++ facet 1 2 3) (0 ∷ 3 ∷ 6 ∷ 9 ∷ 12 ∷ [])
 
-abbrev without-last : Tables
+abbrev without-last : Drawn
 without-last = tables (T .points) three (0 ∷ 3 ∷ 6 ∷ 9 ∷ [])
 
-abbrev with-points : List ℤ → Tables
+abbrev with-points : List ℤ → Drawn
 with-points points = tables points (T .corners) (T .begins)
 
-abbrev with-last : List ℕ → Tables
+abbrev with-last : List ℕ → Drawn
 with-last last = tables (T .points) (three ++ last) (T .begins)
 
 -- case I's
-abbrev star : Tables
+abbrev star : Drawn
 star = tables
     (xyz (pos 4) (pos 0) (pos 0) ++ xyz (minus 3) (pos 2) (pos 0) ++ xyz (pos 1) (minus 4) (pos 0) ++ xyz (pos 1) (pos 4) (pos 0) ++ xyz (minus 3) (minus 2) (pos 0)
     ++ xyz (pos 0) (pos 0) (pos 3) ++ xyz (pos 0) (pos 0) (minus 3))
@@ -138,10 +138,10 @@ tapeT =
     ++ (0 ∷ 4 ∷ 0 ∷ 4 ∷ 0 ∷ [])
 
 -- lent tables full of nines, just large enough for any tape; and the same once T is read into them
-abbrev lent : Tables
+abbrev lent : Drawn
 lent = tables (replicate 3072 (pos 9)) (replicate 6144 9) (replicate 2049 9)
 
-abbrev lent-T : Tables
+abbrev lent-T : Drawn
 lent-T = tables (T .points ++ replicate 3060 (pos 9)) (T .corners ++ replicate 6132 9) (T .begins ++ replicate 2044 9)
 
 -- ---- the table
@@ -149,15 +149,15 @@ lent-T = tables (T .points ++ replicate 3060 (pos 9)) (T .corners ++ replicate 6
 pub data Letter : Type 0 where
   A B C D E F G H I J K L M N O P : Letter
 
-pub record Row : Type 0 where
+pub record Case : Type 0 where
   pub letter : Letter
   pub question : Question
   pub reply : Reply
 
-abbrev row : Letter → Question → Reply → Row
+abbrev row : Letter → Question → Reply → Case
 row letter question reply = record { letter = letter; question = question; reply = reply }
 
-abbrev pub table : List Row
+abbrev pub table : List Case
 table =
     row A (judge T) (ofJudge (accepted 4 6 4))
     ∷ row B (judge without-last) (ofJudge (refused 1 0 0))
@@ -187,13 +187,13 @@ letters = refl
 
 -- "Cases A to P stand together as a single table with a single proved statement"
 pub all-sixteen : map (λ r. answer (r .question)) table ≡ map (λ r. r .reply) table
-unfolding judged isSize isOut coordOf firstBelow countBelow lastBelow iterate tab rounds homeOf nextOf acrossOf stepOf flooded isBent isTurn isReflex isOutside _-_ _·_ det walked trailAfter isSteep step after stood judgedOutline judgedTurns few coordOf² before after² isGreater det² joined packed bytesOf bits over readTape run lookAt numberAt signed place
+unfolding judged isSize isOut coordOf firstBelow countBelow lastBelow iterate tab rounds homeOf nextOf acrossOf roundOf flooded isBent isTurn isReflex isOutside _-_ _·_ det walked trailAfter isSteep step after stood judgedOutline judgedTurns few coordOf² before after² isGreater det² joined packed bytesOf bits over readTape run lookAt numberAt signed place
 all-sixteen = refl
 
-alike : (f g : Row → Reply) {r : Row} {rows : List Row} → map f rows ≡ map g rows → List·Memᴰ r rows → f r ≡ g r
+alike : (f g : Case → Reply) {r : Case} {rows : List Case} → map f rows ≡ map g rows → List·Memᴰ r rows → f r ≡ g r
 alike f g e (List·Memᴰ·head p) = rw p (head-eq-of-cons-eq e)
 alike f g e (List·Memᴰ·tail m) = alike f g (tail-eq-of-cons-eq e) m
 
 -- so every row of the table has the sheet's answer
-pub each : {r : Row} → List·Memᴰ r table → answer (r .question) ≡ r .reply
+pub each : {r : Case} → List·Memᴰ r table → answer (r .question) ≡ r .reply
 each = alike (λ r. answer (r .question)) (λ r. r .reply) all-sixteen

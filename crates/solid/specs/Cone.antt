@@ -7,7 +7,7 @@ use Rattle.whole.specs.Order.{clash, not-le, not-lt, lt→le}
 use Rattle.space.specs.Vec.{Vec}
 use Rattle.space.specs.Vectors.{_-_, _·_, det, swap-≤, cone-step, fall, unfall}
 use Rattle.solid.specs.Left.{below-≤, below-<}
-use Rattle.solid.specs.Reach.{Around, here, step}
+use Rattle.solid.specs.Reach.{Around, here, hop}
 use Rattle.solid.specs.Surface.{Surface, under, not-above}
 use Rattle.solid.specs.Near.{Near, neighbour-in}
 use Rattle.solid.specs.Solid.{Solid}
@@ -63,7 +63,7 @@ module _ {P F : Type 0} {M : Surface P F} (N : Near M) where
 
     sweep : {g : F} → Around Edge v f g → Swept g
     sweep here = back refl
-    sweep (step a o e) = pass o e (sweep a)
+    sweep (hop a o e) = pass o e (sweep a)
 
     -- but the facet before f, which has v → u, is reached
     not-last : {g : F} → Edge g v u → Swept g → ⊥

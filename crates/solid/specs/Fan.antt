@@ -6,7 +6,7 @@ use lib.Signed.{_≤ℤ_, _<ℤ_}
 use Rattle.whole.specs.Order.{le-or-lt, clash, not-le, eq→le}
 use Rattle.space.specs.Vec.{Vec}
 use Rattle.space.specs.Vectors.{_·_, fall, unfall}
-use Rattle.solid.specs.Reach.{Around, here, step}
+use Rattle.solid.specs.Reach.{Around, here, hop}
 use Rattle.solid.specs.Surface.{Surface}
 use Rattle.solid.specs.Near.{Near}
 use Rattle.solid.specs.Wedge.{sides-bound}
@@ -46,7 +46,7 @@ module _ {P F : Type 0} {M : Surface P F} (N : Near M) (d : Vec ℤ) (v : P) whe
 
   walk : {x : P} {g h : F} → Around Edge v g h → Met x g → Seen x h
   walk here m = on m
-  walk (step a o i) m = pass o i (walk a m)
+  walk (hop a o i) m = pass o i (walk a m)
 
   module _ {f g : F} {x y : P} (fv : Corner f v) (fx : Corner f x) (x-up : Up x) (gv : Corner g v) (gy : Corner g y) (y-up : Up y) where
     -- walked both ways round, one walk arrives, or both meet the one fall

@@ -4,7 +4,7 @@
 -- g is reached from f by steps across edges at v: over the edge v → q of one facet, to the facet that has q → v
 pub data Around {P F : Type 0} (Edge : F → P → P → Type 0) (v : P) (f : F) : F → Type 0 where
   here : Around Edge v f f
-  step : {g h : F} {q : P} → Around Edge v f g → Edge g v q → Edge h q v → Around Edge v f h
+  hop : {g h : F} {q : P} → Around Edge v f g → Edge g v q → Edge h q v → Around Edge v f h
 
 -- RING: the facets at v make one ring
 pub record Ring {P F : Type 0} (Corner : F → P → Type 0) (Edge : F → P → P → Type 0) (v : P) : Type 0 where

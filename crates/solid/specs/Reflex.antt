@@ -18,8 +18,8 @@ module _ {P F : Type 0} {M : Surface P F} (S : Solid M) where
   open Solid S using (inside, third)
 
   -- the corner after b is left of a → b
-  beyond : {f : F} {a b : P} → Edge f a b → (c : P) × Corner f c × Left (normal f) (at b - at a) (at c - at a)
-  beyond {f} {a} {b} e =
+  third-corner : {f : F} {a b : P} → Edge f a b → (c : P) × Corner f c × Left (normal f) (at b - at a) (at c - at a)
+  third-corner {f} {a} {b} e =
       let (c, k) = next (ends e) in
       (c, ends k, from-start M e (ends k) (λ s. no-return e (subst (λ z. Edge f b z) s k)) (λ s. no-loop M k (sym s)))
 
@@ -37,8 +37,8 @@ module _ {P F : Type 0} {M : Surface P F} (S : Solid M) where
   -- then they all lie in one plane, and each facet holds them all
   spread : {f g : F} {a b p q : P} → Edge f a b → Holds-all f → Edge g p q → Holds-all g
   spread {f} {g} {p} {q} e all i k w cw =
-      let (c, cf, s) = beyond e in
-      let (r, cr, t) = beyond i in
+      let (c, cf, s) = third-corner e in
+      let (r, cr, t) = third-corner i in
       let cp = all g p (starts i) in
       let flat = coplanar (normal f) (at q - at p) (at r - at p) (at w - at p) (upright s)
       (on-plane M cp (all g q (ends i))) (on-plane M cp (all g r cr)) (on-plane M cp (all k w cw)) in

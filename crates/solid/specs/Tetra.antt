@@ -7,7 +7,7 @@ use lib.IntN.{ℤ, pos}
 use lib.Signed.{_<ℤ_}
 use Rattle.space.specs.Vec.{Vec, vec}
 use Rattle.space.specs.Vectors.{_-_, _·_, det}
-use Rattle.solid.specs.Reach.{Around, here, step, Ring, Linked, self, link}
+use Rattle.solid.specs.Reach.{Around, here, hop, Ring, Linked, self, link}
 use Rattle.solid.specs.Box.{Box}
 use Rattle.solid.specs.Decide.{run, via, same?, less?, below?, ¬?, _→?_, _×?_, _⊎?_, all?, some?}
 use Rattle.solid.specs.Tables.{Tables, Place, Corner, Edge, Sized, Ranged, Closed, Flat, Outside, Convex, Reflex, Neighbours, after, next, normal, volume}
@@ -48,7 +48,7 @@ abbrev edge? : (f u w : ℕ) → Dec (Edge tetra f u w)
 edge? f u w = via (λ (i, p, (s, z)). record { i = i; place = p; from = s; to = z }) (λ e. (e .i, e .place, (e .from, e .to)))
     (some-place? f (λ i. same? (corner f i) u ×? same? (next tetra f i) w))
 
--- ---- RING: round v from f to g in two steps or fewer. APART: from facet 0 in one step or none
+-- ---- RING: round v from f to g in two steps or fewer. APART: from facet 0 in one hop or none
 
 abbrev Over : ℕ → ℕ → ℕ → Type 0
 Over v f g = (q : ℕ) × (q < 4) × (Edge tetra f v q × Edge tetra g q v)
@@ -58,8 +58,8 @@ over? v f g = some? 4 (λ q. edge? f v q ×? edge? g q v)
 
 around : {v f g : ℕ} → (f ≡ g) ⊎ (Over v f g ⊎ ((h : ℕ) × (h < 4) × (Over v f h × Over v h g))) → Around (Edge tetra) v f g
 around {v} {f} (inl s) = subst (λ g. Around (Edge tetra) v f g) s here
-around (inr (inl (q, l, (o, i)))) = step here o i
-around (inr (inr (h, k, ((q, l, (o, i)), (r, m, (o′, i′)))))) = step (step here o i) o′ i′
+around (inr (inl (q, l, (o, i)))) = hop here o i
+around (inr (inr (h, k, ((q, l, (o, i)), (r, m, (o′, i′)))))) = hop (hop here o i) o′ i′
 
 ring : (v : ℕ) → v < 4 → Ring (Corner tetra) (Edge tetra) v
 unfolding after

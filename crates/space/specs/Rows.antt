@@ -17,8 +17,8 @@ longest = 16382
 abbrev pub widest : ℕ
 widest = 536739848
 
-abbrev pub Step : ℤ → Type 0
-Step z = z within longest
+abbrev pub Difference : ℤ → Type 0
+Difference z = z within longest
 
 abbrev pub Minor : ℤ → Type 0
 Minor z = z within widest

@@ -4,12 +4,12 @@ ghost use Prim.Native.Nat.{_<_};
 ghost use Rattle.space.specs.Vec.{vec};
 ghost use Rattle.space.specs.Vectors.{det};
 ghost use Rattle.space.specs.Plane as plane;
-ghost use Rattle.space.specs.Rows.{Step, Minor, Row, Rows, longest, widest, detOf, crossOf};
+ghost use Rattle.space.specs.Rows.{Difference, Minor, Row, Rows, longest, widest, detOf, crossOf};
 ghost use Rattle.space.specs.Nought.{isBelow, isAbove, isZero, isNought};
 
 // The determinant of the rows a b and c d.
 pub fn minor(a: i64, b: i64, c: i64, d: i64) -> i64
-    requires { ⌜ Step a × Step b × Step c × Step d ⌝ }
+    requires { ⌜ Difference a × Difference b × Difference c × Difference d ⌝ }
     ensures { λ r. ⌜ (r ≡ plane.det (plane.vec a b) (plane.vec c d)) × Minor r ⌝ }
 {
     a * d - b * c
@@ -17,7 +17,7 @@ pub fn minor(a: i64, b: i64, c: i64, d: i64) -> i64
 
 // The determinant of the rows a b c, d e f and g h i, along the last row, so that the other two can be worked out once for many.
 fn expand(a: i64, b: i64, c: i64, d: i64, e: i64, f: i64, g: i64, h: i64, i: i64) -> i64
-    requires { ⌜ Minor a × Minor b × Minor c × Step d × Step e × Step f × Step g × Step h × Step i ⌝ }
+    requires { ⌜ Minor a × Minor b × Minor c × Difference d × Difference e × Difference f × Difference g × Difference h × Difference i ⌝ }
     ensures { λ r. ⌜ r ≡ det (vec a b c) (vec d e f) (vec g h i) ⌝ }
 {
     (b * f - c * e) * g + (c * d - a * f) * h + (a * e - b * d) * i

@@ -45,7 +45,7 @@ pub record Laid (corners begins : List ℕ) : Type 0 where
   pub narrow : (f : ℕ) → f + 1 < length begins → getD begins (f + 1) 0 ≤ getD begins f 0 + mostSides
 
 -- n is V
-pub record Sized (n : ℕ) (corners begins : List ℕ) : Type 0 where
+pub record SizePassed (n : ℕ) (corners begins : List ℕ) : Type 0 where
   pub many : leastVertices ≤ n
   pub few : n ≤ mostVertices
   pub laid : Laid corners begins
@@ -78,7 +78,7 @@ counted points corners begins e =
       short = ltb-false mostCorners corners (f .1);
     }
 
-pub sized : (points : List ℤ) (corners begins : List ℕ) → isSize points corners begins ≡ false → Sized (vertices points) corners begins
+pub sized : (points : List ℤ) (corners begins : List ℕ) → isSize points corners begins ≡ false → SizePassed (vertices points) corners begins
 unfolding isSize
 sized points corners begins e =
     let facet = anyBelow (wrongSides begins) (facets begins) in

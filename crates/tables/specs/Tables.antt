@@ -1,5 +1,6 @@
 -- "The solid's tables": sizes, facets, edges and limits.
-use Prim.Native.Nat.{ℕ, _+_, _-_, _/_}
+use mathlib.Core.Path.{_≡_}
+use Prim.Native.Nat.{ℕ, _+_, _-_, _/_, _<_}
 use mathlib.Core.Bool.{Bool, cond}
 use mathlib.Core.List.{List}
 use lib.Dec.{ltb, eqb}
@@ -84,3 +85,8 @@ from corners p = getD corners p 0
 
 abbrev pub to : List ℕ → List ℕ → ℕ → ℕ
 to corners begins p = getD corners (nextOf begins p) 0
+
+-- a number read in more bits
+pub record Widened (x r : ℕ) : Type 0 where
+  pub is : r ≡ x
+  pub small : r < 65536

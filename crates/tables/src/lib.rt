@@ -3,7 +3,7 @@ ghost use mathlib.Core.Path.{_≡_};
 ghost use Prim.Native.Nat.{_+_, _≤_, _<_};
 ghost use lib.ListN.{length};
 ghost use Rattle.whole.specs.First.{anyBelow};
-ghost use Rattle.tables.specs.Tables.{facets, facetOf, nextPosition};
+ghost use Rattle.tables.specs.Tables.{Widened, facets, facetOf, nextPosition};
 ghost use Rattle.tables.specs.Size.{wrongLengths, wrongEnds, wrongSides, isSize, Laid};
 ghost use Rattle.tables.specs.LookUp.{lookUp};
 
@@ -63,7 +63,7 @@ fn wrong_ends(corners: &[u16], begins: &[u16]) -> bool
 
 // A corner number or a begin as a place.
 pub fn wide(x: u16) -> usize
-    ensures { λ r. ⌜ (r ≡ x) × (r < 65536) ⌝ }
+    ensures { λ r. ⌜ Widened x r ⌝ }
 {
     x as usize
 }

@@ -78,7 +78,7 @@ pub packed-more : (ns : List ℕ) (i : ℕ) → i < length ns → packed (take (
 packed-more ns i h = rw (add-one, take-suc ns i 0 h, packed-append, packed-one)
 
 -- Of SIZE, what the records need: the run cut into facets of 3 to 12 corners, within the upper limits.
-pub record Parted (corners begins : List ℕ) : Type 0 where
+pub record Divided (corners begins : List ℕ) : Type 0 where
   pub some : 1 ≤ length begins
   pub most : length begins ≤ mostFacets + 1
   pub short : length corners ≤ mostCorners
@@ -87,8 +87,8 @@ pub record Parted (corners begins : List ℕ) : Type 0 where
   pub rise : (f : ℕ) → f < facets begins → begin begins f + leastSides ≤ end begins f
   pub narrow : (f : ℕ) → f < facets begins → end begins f ≤ begin begins f + mostSides
 
-pub parted : {corners begins : List ℕ} → Laid corners begins → Parted corners begins
-parted L = record {
+pub divided : {corners begins : List ℕ} → Laid corners begins → Divided corners begins
+divided L = record {
   some = omega (arith, L .some);
   most = L .most;
   short = L .short;
@@ -99,11 +99,11 @@ parted L = record {
 }
 
 -- of RANGE, what they need: each coordinate has 16 bits
-pub record Placed (points : List ℤ) : Type 0 where
+pub record Fits16 (points : List ℤ) : Type 0 where
   pub few : vertices points ≤ mostVertices
   pub fits : (v k : ℕ) → v < vertices points → k < 3 → SFits w16 (coordOf points v k)
 
-module _ {corners begins : List ℕ} (p : Parted corners begins) where
+module _ {corners begins : List ℕ} (p : Divided corners begins) where
   below : (j f : ℕ) → f + j ≡ facets begins → begin begins f ≤ length corners
   below zero f e = let q : f ≡ facets begins = omega arith in rw (q, p .finish) (omega arith)
   below (suc j) f e = omega (arith, below j (f + 1) (omega arith), p .rise f (omega arith))
@@ -132,7 +132,7 @@ unfolding joined
 length-points points zero = refl
 length-points points (suc n) = simp (length-append, length-packed) (omega (arith, length-points points n))
 
-pub length-records : (points : List ℤ) {corners begins : List ℕ} → Parted corners begins
+pub length-records : (points : List ℤ) {corners begins : List ℕ} → Divided corners begins
     → length (recordBytes points corners begins) ≡ 7 * vertices points + (facets begins + 2 * length corners)
 length-records points {corners} {begins} p =
     rw (length-append, length-points points (vertices points), length-all-facets p)

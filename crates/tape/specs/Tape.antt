@@ -6,7 +6,7 @@ use lib.IntN.{ℤ}
 use lib.ListN.{length, length-append}
 use Rattle.points.specs.Points.{vertices}
 use Rattle.tables.specs.Tables.{facets}
-use Rattle.tape.specs.Records.{framed, recordBytes, Parted, length-packed, length-records}
+use Rattle.tape.specs.Records.{framed, recordBytes, Divided, length-packed, length-records}
 
 -- "0 end: V and F, unsigned 16 bits each"
 abbrev pub ending : ℕ → ℕ → List ℕ
@@ -16,7 +16,7 @@ ending v f = framed 0 (v ∷ f ∷ [])
 abbrev pub tape : List ℤ → List ℕ → List ℕ → List ℕ
 tape points corners begins = recordBytes points corners begins ++ ending (vertices points) (facets begins)
 
-pub length-tape : (points : List ℤ) {corners begins : List ℕ} → Parted corners begins
+pub length-tape : (points : List ℤ) {corners begins : List ℕ} → Divided corners begins
     → length (tape points corners begins) ≡ 7 * vertices points + (facets begins + 2 * length corners) + 5
 length-tape points {corners} {begins} p =
     length-append (recordBytes points corners begins) _ ∙ rw (length-records points p, length-packed)

@@ -160,21 +160,21 @@ pub record Ended (s : List ℕ) (look : ℕ → ℕ → ℕ → ℕ → Next) (f
 
 module _ {s : List ℕ} {look : ℕ → ℕ → ℕ → ℕ → Next} (L : Looks s look) (from : ℕ) where
   module _ {v₁ f₁ c₁ : ℕ} where
-    step : (k at v f c : ℕ) → ((at v f c : ℕ) → Here s from at v f c → run look k at v f c ≡ Read v₁ f₁ c₁ → Ended s look from v₁ f₁ c₁)
+    one-more : (k at v f c : ℕ) → ((at v f c : ℕ) → Here s from at v f c → run look k at v f c ≡ Read v₁ f₁ c₁ → Ended s look from v₁ f₁ c₁)
         → Here s from at v f c → (r : Next) → look at v f c ≡ r → after (run look k) at v f c r ≡ Read v₁ f₁ c₁ → Ended s look from v₁ f₁ c₁
-    step k at v f c more h Point e q = more (at + 7) (v + 1) f c (here-point h (L .point at v f c e)) q
-    step k at v f c more h (Facet n) e q = more (at + (1 + 2 * n)) v (f + 1) (c + n) (here-facet h (L .facet at v f c n e)) q
-    step k at v f c more h End e q =
+    one-more k at v f c more h Point e q = more (at + 7) (v + 1) f c (here-point h (L .point at v f c e)) q
+    one-more k at v f c more h (Facet n) e q = more (at + (1 + 2 * n)) v (f + 1) (c + n) (here-facet h (L .facet at v f c n e)) q
+    one-more k at v f c more h End e q =
         let a : v ≡ v₁ = cc in
         let b : f ≡ f₁ = cc in
         let d : c ≡ c₁ = cc in
         rw (← a, ← b, ← d) (record { at = at; here = h; end = e })
-    step k at v f c more h (Bad n o) e q = let z : _≡_ {A = ℕ} 0 1 = cc in absurd (omega arith)
+    one-more k at v f c more h (Bad n o) e q = let z : _≡_ {A = ℕ} 0 1 = cc in absurd (omega arith)
 
     pub read-ends : (k at v f c : ℕ) → Here s from at v f c → run look k at v f c ≡ Read v₁ f₁ c₁ → Ended s look from v₁ f₁ c₁
     unfolding run
     read-ends zero at v f c h q = let z : _≡_ {A = ℕ} 0 1 = cc in absurd (omega arith)
-    read-ends (suc k) at v f c h q = step k at v f c (read-ends k) h (look at v f c) refl q
+    read-ends (suc k) at v f c h q = one-more k at v f c (read-ends k) h (look at v f c) refl q
 
   -- and the other way
   run-points : {at v f : ℕ} → Records s from at v f → (j k : ℕ) → j ≤ v → run look (k + j) from 0 0 0 ≡ run look k (from + 7 * j) j 0 0

@@ -16,7 +16,7 @@ use Rattle.points.specs.Points.{vertices, coordOf}
 use Rattle.tables.specs.Tables.{facets, begin, sides, facetOf}
 use Rattle.tape.specs.Little.{Bytes, unsignedAt, bytes-number, number-fits, bits-signed, signed-fits}
 use Rattle.whole.specs.Joined.{joined, joined-0, joined-same, joined-split, length-listed, getD-listed}
-use Rattle.tape.specs.Records.{facet, framed, packed, bytes, pointOf, pointBytes, facetBytes, packed-append, packed-one, Placed, Parted}
+use Rattle.tape.specs.Records.{facet, framed, packed, bytes, pointOf, pointBytes, facetBytes, packed-append, packed-one, Fits16, Divided}
 use Rattle.tape.specs.Tape.{ending, tape}
 use Rattle.tape.specs.Reading.{coordsAt, numbersAt, pointsAt, place, facetFrom, cornersAt, beginsAt, length-points-at}
 use Rattle.tape.specs.Whole.{Facets, Whole, place-0, place-more, place-rises, length-from, corners-more, facet-inside}
@@ -135,7 +135,7 @@ module _ {s : List ℕ} (b : Bytes s) {v f c : ℕ} (w : Whole s v f c) where
 
   -- ---- what the tables have
 
-  placed : Placed points
+  placed : Fits16 points
   placed = record {
     few = rw count-points (w .records .few);
     fits = λ k j l h. let m : k < v = rw count-points at l in rw (coord k j m h) (three (0 + 7 * k + 1) j);
@@ -147,8 +147,8 @@ module _ {s : List ℕ} (b : Bytes s) {v f c : ℕ} (w : Whole s v f c) where
       three i (suc (suc zero)) = signed-fits (number-fits b (i + 4))
       three i (suc (suc (suc j))) = sfits-lit tt
 
-  parted : Parted corners begins
-  parted = record {
+  parted : Divided corners begins
+  divided = record {
     some = rw length-listed (omega arith);
     most = rw length-listed (omega (arith, h .few));
     short = h .short;
@@ -171,7 +171,7 @@ module _ {s : List ℕ} (b : Bytes s) {v f c : ℕ} (w : Whole s v f c) where
     holds = record {
       threes = rw (count-points) (length-points-at s 0 v);
       placed = placed;
-      parted = parted;
+      divided = parted;
       numbers = λ k l. let m : k < f = rw count-facets at l in rw (facet-is k m) (sixteen-from k);
     };
     same = same;

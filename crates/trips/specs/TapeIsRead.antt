@@ -113,7 +113,7 @@ module _ {points : List ℤ} {corners begins : List ℕ} (h : Holds points corne
   offset f = 7 * vertices points + (f + 2 * begin begins f)
 
   length-before : (f : ℕ) → f < length begins → length (pointBytes points (vertices points) ++ facetBytes corners begins f) ≡ offset f
-  length-before f l = rw (length-append, length-points points (vertices points), length-facets (h .parted) f l)
+  length-before f l = rw (length-append, length-points points (vertices points), length-facets (h .divided) f l)
 
   stands-facet : (f : ℕ) → f < facets begins → Stands s (offset f) (length (facetOf corners begins f)) (facetOf corners begins f)
   stands-facet f l =
@@ -123,32 +123,32 @@ module _ {points : List ℤ} {corners begins : List ℕ} (h : Holds points corne
 
   -- the kind byte of facet f
   kind-is : (f : ℕ) → f < facets begins → getD s (offset f) 0 ≡ sides begins f
-  kind-is f l = stands-facet f l .first ∙ length-facet (h .parted) f l
+  kind-is f l = stands-facet f l .first ∙ length-facet (h .divided) f l
 
   place-is : (f : ℕ) → f ≤ facets begins → place s (7 * vertices points) f ≡ offset f
   unfolding place
-  place-is zero l = omega (arith, h .parted .start)
+  place-is zero l = omega (arith, h .divided .start)
   place-is (suc f) l =
       let m : f < facets begins = omega arith in
-      rw (place-is f (omega arith), kind-is f m) (omega (arith, h .parted .rise f m, ap (begin begins) (add-one f)))
+      rw (place-is f (omega arith), kind-is f m) (omega (arith, h .divided .rise f m, ap (begin begins) (add-one f)))
 
   corners-upto : (f : ℕ) → f ≤ facets begins → cornersAt s (7 * vertices points) f ≡ take (begin begins f) corners
   unfolding joined
-  corners-upto zero l = rw (h .parted .start)
+  corners-upto zero l = rw (h .divided .start)
   corners-upto (suc f) l =
       let m : f < facets begins = omega arith in
-      let e : begin begins (suc f) ≡ begin begins f + sides begins f = omega (arith, h .parted .rise f m, ap (begin begins) (add-one f)) in
-      rw (corners-upto f (omega arith), place-is f (omega arith), kind-is f m, ← length-facet (h .parted) f m, stands-facet f m .numbers, e) (sym (take-add (begin begins f) (sides begins f) corners))
+      let e : begin begins (suc f) ≡ begin begins f + sides begins f = omega (arith, h .divided .rise f m, ap (begin begins) (add-one f)) in
+      rw (corners-upto f (omega arith), place-is f (omega arith), kind-is f m, ← length-facet (h .divided) f m, stands-facet f m .numbers, e) (sym (take-add (begin begins f) (sides begins f) corners))
 
   pub corners-are : cornersAt s (7 * vertices points) (facets begins) ≡ corners
-  corners-are = corners-upto (facets begins) (omega arith) ∙ rw (h .parted .finish) (take-length corners)
+  corners-are = corners-upto (facets begins) (omega arith) ∙ rw (h .divided .finish) (take-length corners)
 
   length-upto : (f : ℕ) → f < length begins → length (cornersAt s (7 * vertices points) f) ≡ begin begins f
-  length-upto f l = rw (corners-upto f (omega arith)) (length-take-le (begin begins f) corners (begin-within (h .parted) f l))
+  length-upto f l = rw (corners-upto f (omega arith)) (length-take-le (begin begins f) corners (begin-within (h .divided) f l))
 
   pub begins-are : beginsAt s (7 * vertices points) (facets begins + 1) ≡ begins
   begins-are =
-      let e : facets begins + 1 ≡ length begins = omega (arith, h .parted .some) in
+      let e : facets begins + 1 ≡ length begins = omega (arith, h .divided .some) in
       rw e
       (joined-same (λ f. length (cornersAt s (7 * vertices points) f) ∷ []) (λ f. getD begins f 0 ∷ []) (length begins) (λ f l. ap (λ (x : ℕ). x ∷ []) (length-upto f l))
       ∙ listed-take begins (length begins) (omega arith) ∙ take-length begins)
@@ -158,8 +158,8 @@ module _ {points : List ℤ} {corners begins : List ℕ} (h : Holds points corne
   stands-end : Stands s (offset (facets begins)) 0 (vertices points ∷ facets begins ∷ [])
   stands-end =
       stands-at (pointBytes points (vertices points) ++ facetBytes corners begins (facets begins)) 0 (vertices points ∷ facets begins ∷ []) []
-      (sixteen-append (sixteen-one (omega (arith, h .placed .few))) (sixteen-one (omega (arith, h .parted .most))))
-      (rw append-nil) (length-before (facets begins) (omega (arith, h .parted .some)))
+      (sixteen-append (sixteen-one (omega (arith, h .placed .few))) (sixteen-one (omega (arith, h .divided .most))))
+      (rw append-nil) (length-before (facets begins) (omega (arith, h .divided .some)))
 
   ends : IsEnd s (offset (facets begins)) (vertices points) (facets begins)
   ends =
@@ -168,11 +168,11 @@ module _ {points : List ℤ} {corners begins : List ℕ} (h : Holds points corne
       let q = sym (numbers-2 s (at + 1)) ∙ stands-end .numbers in
       let a : unsignedAt s (at + 1) ≡ vertices points = cc in
       let b : unsignedAt s (at + 1 + 2) ≡ facets begins = cc in
-      record { kind = stands-end .first; points = a; facets = rw j b; last = length-tape points (h .parted) ∙ omega (arith, h .parted .finish) }
+      record { kind = stands-end .first; points = a; facets = rw j b; last = length-tape points (h .divided) ∙ omega (arith, h .divided .finish) }
 
   pub holds-whole : Whole s (vertices points) (facets begins) (length corners)
   holds-whole =
-      let p = h .parted in
+      let p = h .divided in
       record {
         records = record {
           few = h .placed .few;

@@ -8,7 +8,7 @@ use lib.ListN.{length, getD}
 use Rattle.points.specs.Points.{vertices}
 use Rattle.tables.specs.Tables.{facets, facetOf}
 use Rattle.whole.specs.Joined.{joined}
-use Rattle.tape.specs.Records.{Placed, Parted}
+use Rattle.tape.specs.Records.{Fits16, Divided}
 use Rattle.tape.specs.Tape.{tape}
 
 -- each number has 16 bits
@@ -38,8 +38,8 @@ sixteen-joined f h (suc n) = sixteen-append (sixteen-joined f h n) (h n)
 -- within the upper limits, which are the reader's; SIZE's lower limits and RANGE's are no matter of the tape
 pub record Holds (points : List ℤ) (corners begins : List ℕ) : Type 0 where
   pub threes : length points ≡ vertices points * 3
-  pub placed : Placed points
-  pub parted : Parted corners begins
+  pub placed : Fits16 points
+  pub divided : Divided corners begins
   pub numbers : (f : ℕ) → f < facets begins → Sixteen (facetOf corners begins f)
 
 pub record Taped (s : List ℕ) (points : List ℤ) (corners begins : List ℕ) : Type 0 where

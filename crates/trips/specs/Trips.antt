@@ -22,7 +22,7 @@ use Rattle.answers.specs.Answer.{accepted}
 use Rattle.tape.specs.Little.{Bytes}
 use Rattle.whole.specs.Joined.{length-listed}
 use Rattle.whole.specs.Over.{over, take-over}
-use Rattle.tape.specs.Records.{parted, length-facet}
+use Rattle.tape.specs.Records.{divided, length-facet}
 use Rattle.tape.specs.Tape.{tape}
 use Rattle.tape.specs.Reading.{readTape, pointsAt, cornersAt, beginsAt, length-points-at}
 use Rattle.tape.specs.Whole.{read-whole, whole-read, refused-number}
@@ -121,13 +121,13 @@ module _ {points : List ℤ} {corners begins : List ℕ} (o : InOrder points cor
           let e = first-none (facets begins) (sides begins) (onFacets corners begins (wild n)) (o .numbers) f k l h in
           omega (arith, leb-false n (getD (facetOf corners begins f) k 0) e, placed o .few)
       | no h ↦
-          let e = List·getD-eq-default (facetOf corners begins f) 0 {n = k} (rw (length-facet (parted (laid o)) f l) (omega arith)) in
+          let e = List·getD-eq-default (facetOf corners begins f) 0 {n = k} (rw (length-facet (divided (laid o)) f l) (omega arith)) in
           rw e (lit< tt)
     ];
   }
 
   pub in-order-holds : Holds points corners begins
-  in-order-holds = record { threes = threes; placed = placed o; parted = parted (laid o); numbers = numbers }
+  in-order-holds = record { threes = threes; placed = placed o; divided = divided (laid o); numbers = numbers }
 
   -- what the writer answers and leaves, with space
   module _ (buffer : List ℕ) (room : length (tape points corners begins) ≤ length buffer) where
@@ -179,7 +179,7 @@ holds-read : {points : List ℤ} {corners begins : List ℕ} → Holds points co
 holds-read {points} {corners} {begins} h p c b room =
     let s = tape points corners begins in
     let out : outcome s p c b ≡ Read (vertices points) (facets begins) (length corners) = with-room s p c b room ∙ whole-read (holds-whole h) in
-    let last : length begins ≡ facets begins + 1 = omega (arith, h .parted .some) in
+    let last : length begins ≡ facets begins + 1 = omega (arith, h .divided .some) in
     record {
       answer = ap answerOf out;
       left-points = rw (out, points-are h);

@@ -74,16 +74,16 @@ within-low {z = negsuc n} {N = zero} h = absurd (omega (arith, h .abs))
 within-low {z = negsuc n} {N = suc N} h = leZ-yes (le→leb n N (omega (arith, h .abs)))
 
 -- a test of it: z is outside -N to N
-abbrev pub beyond : ℕ → ℤ → Bool
-beyond N z = ltZ z (negℤ (pos N)) || ltZ (pos N) z
+abbrev pub exceeds : ℕ → ℤ → Bool
+exceeds N z = ltZ z (negℤ (pos N)) || ltZ (pos N) z
 
-pub within-beyond : (N : ℕ) (z : ℤ) → beyond N z ≡ false → z within N
-within-beyond N z e =
+pub within-exceeds : (N : ℕ) (z : ℤ) → exceeds N z ≡ false → z within N
+within-exceeds N z e =
     let (low, high) = neither (ltZ z (negℤ (pos N))) (ltZ (pos N) z) e in
     within-between z N (ltZ-false _ _ low) (ltZ-false _ _ high)
 
-pub not-beyond : {z : ℤ} {N : ℕ} → z within N → beyond N z ≡ false
-not-beyond h = rw (false-ltZ (within-low h), false-ltZ (within-high h))
+pub not-exceeds : {z : ℤ} {N : ℕ} → z within N → exceeds N z ≡ false
+not-exceeds h = rw (false-ltZ (within-low h), false-ltZ (within-high h))
 
 mag-abs : (z : ℤ) → mag z ≤ natAbs z
 mag-abs (pos n) = omega arith

@@ -40,22 +40,22 @@ pub fn past(text: &[u8], set: &[u8], inside: bool, at: usize) -> usize
 }
 
 // Where a word stands in a text; an empty part where there is none.
-pub struct Part {
+pub struct Span {
     pub start: usize,
     pub end: usize,
 }
 
 // The first word from `at` on, where a set has the blanks.
-pub fn next(text: &[u8], set: &[u8], at: usize) -> Part
+pub fn next(text: &[u8], set: &[u8], at: usize) -> Span
     ensures { λ r. ⌜ r ≡ nextOf (among (now (set .entry))) (now (text .entry)) at ⌝ }
 {
     let start = past(text, set, true, at);
     let end = past(text, set, false, start);
-    Part { start, end }
+    Span { start, end }
 }
 
 // Where word number k stands, counted from 0.
-fn nth(text: &[u8], set: &[u8], k: usize) -> Part
+fn nth(text: &[u8], set: &[u8], k: usize) -> Span
     ensures { λ r. ⌜ r ≡ nthOf (among (now (set .entry))) (now (text .entry)) k ⌝ }
 {
     let mut at = next(text, set, 0);

@@ -16,7 +16,7 @@ use Rattle.answers.specs.Answer.{accepted, refused}
 use Rattle.answers.specs.declared.Answer.{Answer}
 use Rattle.limits.specs.InOrder.{checked, InOrder, passes, laid, stopped}
 use Rattle.whole.specs.Over.{over}
-use Rattle.tape.specs.Records.{Placed, parted}
+use Rattle.tape.specs.Records.{Fits16, divided}
 use Rattle.tape.specs.Tape.{tape, length-tape}
 use Rattle.writer.specs.Answer.{spaced, written, bufferAfter}
 
@@ -29,7 +29,7 @@ pub record Long (points : List ℤ) (corners begins : List ℕ) : Type 0 where
   pub length-is : length (tape points corners begins) ≡ 7 * vertices points + (facets begins + 2 * length corners) + 5
 
 module _ {points : List ℤ} {corners begins : List ℕ} (o : InOrder points corners begins) where
-  pub placed : Placed points
+  pub placed : Fits16 points
   placed = record {
     few = sized points corners begins (o .sizes) .few;
     fits = λ v k l h. within-fits {w = w16} (in-limits points (o .ranges) v k l h) tt;
@@ -42,7 +42,7 @@ module _ {points : List ℤ} {corners begins : List ℕ} (o : InOrder points cor
     most = laid o .most;
     short = laid o .short;
     few = placed .few;
-    length-is = length-tape points (parted (laid o));
+    length-is = length-tape points (divided (laid o));
   }
 
 module _ (points : List ℤ) (corners begins buffer : List ℕ) where

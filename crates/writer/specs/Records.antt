@@ -8,15 +8,15 @@ use Rattle.tables.specs.Tables.{mostSides, facets, begin, sides, facetOf}
 use Rattle.tables.specs.Size.{Laid}
 use Rattle.tables.specs.Places.{end-in-run, sides-few, sides-some, part-length}
 
--- what is known of the facet of one turn, whose record starts at `at`
-pub record Turn (corners begins part : List ℕ) (at f : ℕ) : Type 0 where
+-- what is known of the facet of one writes-facet, whose record starts at `at`
+pub record WritesFacet (corners begins part : List ℕ) (at f : ℕ) : Type 0 where
   pub few : length part ≤ mostSides
   pub next : at + (1 + 2 * length part) ≡ f + 1 + 2 * begin begins (f + 1)
   pub inside : at + (1 + 2 * length part) ≤ facets begins + 2 * length corners
 
-pub turn : {corners begins part : List ℕ} {at f : ℕ} → Laid corners begins → f < facets begins → at ≡ f + 2 * begin begins f → part ≡ facetOf corners begins f
-    → Turn corners begins part at f
-turn {corners} {begins} {part} {at} {f} L l e q =
+pub writes-facet : {corners begins part : List ℕ} {at f : ℕ} → Laid corners begins → f < facets begins → at ≡ f + 2 * begin begins f → part ≡ facetOf corners begins f
+    → WritesFacet corners begins part at f
+writes-facet {corners} {begins} {part} {at} {f} L l e q =
     let n : length part ≡ sides begins f = ap length q ∙ part-length L l in
     let s = sides-some L l in
     record {

@@ -7,13 +7,13 @@ ghost use Rattle.tables.specs.Tables.{facets};
 ghost use Rattle.tables.specs.Size.{Laid};
 ghost use Rattle.limits.specs.InOrder.{InOrder};
 ghost use Rattle.whole.specs.Over.{over};
-ghost use Rattle.tape.specs.Records.{pointBytes, facetBytes, Placed};
+ghost use Rattle.tape.specs.Records.{pointBytes, facetBytes, Fits16};
 ghost use Rattle.tape.specs.Tape.{tape};
 ghost use Rattle.writer.specs.Answer.{written, bufferAfter};
 
 // The records of all points, each at the beginning of the rest that the one before it left.
 fn put_points(buffer: &mut [u8], points: &[i32])
-    requires { ⌜ Placed (now points) × (7 * vertices (now points) ≤ length (now buffer)) ⌝ }
+    requires { ⌜ Fits16 (now points) × (7 * vertices (now points) ≤ length (now buffer)) ⌝ }
     ensures { λ _. ⌜ now (buffer .exit) ≡ over (pointBytes (now (points .entry)) (vertices (now (points .entry)))) (now (buffer .entry)) ⌝ }
 {
     let n = points.len() / 3;

@@ -48,7 +48,7 @@ read c =
 spread-requires : tie.Need-spread-requires Inv-loop μ-loop
 spread-requires c κs =
     let l = c .before .before .before .before in
-    let w = c .before .before .wide .ensures .0 in
+    let w = c .before .before .wide .ensures .is in
     let Q = l .loop .inv .queued in (
       l .before .before .before .before .before .before .pre,
       record { queued = Q; facet = rw w (Q .below (l .loop .head) (omega arith)); reached = rw w (Q .reach (l .loop .head) (omega arith)) },
@@ -64,7 +64,7 @@ loop-again : tie.Need-loop-again Inv-loop μ-loop
 loop-again c =
     let l = c .before .before .before .before .before in
     let s = l .before .before .before .before .before .before in
-    let w = c .before .before .before .wide .ensures .0 in
+    let w = c .before .before .before .wide .ensures .is in
     flood-more (l .loop .inv) (omega arith) (λ p h e. let i = home (s .pre .homes .laid) h in (rw (w, ← e) (i .low), rw (w, ← e) (i .high))) (c .spread .ensures)
 
 returns : tie.Need-returns Inv-loop μ-loop

@@ -9,7 +9,8 @@ use Rattle.whole.specs.Rounds.{arc}
 use Rattle.tables.specs.Tables.{facets, begin, end as endOf}
 use Rattle.tables.specs.Places.{In, home-is, in-facet}
 use Rattle.pair.specs.Across.{across-entry}
-use Rattle.apart.specs.Apart.{Reached, beyond, beyond-entry, beyond-facet, Spreading}
+use Rattle.apart.specs.Apart.{Reached, across-facet, beyond-facet, Spreading}
+use Rattle.edges.specs.Edge.{facetAcross}
 use Rattle.tables.proofs.wide.Reads as wide-reads
 use Rattle.apart.proofs.push.Reads as push-reads
 use Rattle.apart.proofs.spread.Reads as reads
@@ -31,7 +32,7 @@ loop-holds : tie.Need-loop-holds Inv-loop μ-loop
 loop-holds c =
     let s = c .before .before .before .before .before .before in
     let r = s .pre .0 .homes .laid .rise (s .args .f) (omega (arith, s .pre .1 .facet)) in
-    rw (c .before .before .wide .ensures .0) (omega arith, omega arith, spread-0 _ _ (s .pre .1 .queued))
+    rw (c .before .before .wide .ensures .is) (omega arith, omega arith, spread-0 _ _ (s .pre .1 .queued))
 
 -- the place is one of the facet
 module _ (c : lts.In-loop (wide-reads.Asked, wide-reads.Learnt, push-reads.Asked, push-reads.Learnt) reads.Pre reads.Post Inv-loop μ-loop) where
@@ -42,7 +43,7 @@ module _ (c : lts.In-loop (wide-reads.Asked, wide-reads.Learnt, push-reads.Asked
       record {
         facet = omega (arith, s .pre .1 .facet);
         low = l .loop .inv .0;
-        high = rw (l .before .wide2 .ensures .0) at (c .loop-test .taken);
+        high = rw (l .before .wide2 .ensures .is) at (c .loop-test .taken);
       }
 
   below : c .before .loop .p < length (c .before .before .before .before .before .before .before .before .args .corners .now)
@@ -53,17 +54,17 @@ module _ (c : lts.In-loop (wide-reads.Asked, wide-reads.Learnt, push-reads.Asked
 
   -- the facet across is below F, and reached
   entry : let a = c .before .before .before .before .before .before .before .before .args in
-      getD (a .home .now) (getD (a .across .now) (c .before .loop .p) 0) 0 ≡ beyond (a .corners .now) (a .begins .now) (c .before .loop .p)
-  entry = beyond-entry (c .before .before .before .before .before .before .before .before .pre .0) (c .before .loop .p) below
+      getD (a .home .now) (getD (a .across .now) (c .before .loop .p) 0) 0 ≡ facetAcross (a .corners .now) (a .begins .now) (c .before .loop .p)
+  entry = across-facet (c .before .before .before .before .before .before .before .before .pre .0) (c .before .loop .p) below
 
   next-facet : let a = c .before .before .before .before .before .before .before .before .args in
-      beyond (a .corners .now) (a .begins .now) (c .before .loop .p) < facets (a .begins .now)
+      facetAcross (a .corners .now) (a .begins .now) (c .before .loop .p) < facets (a .begins .now)
   next-facet =
       let B = c .before .before .before .before .before .before .before .before .pre .0 in
       beyond-facet (B .homes .laid) (B .crossed .paired) (c .before .loop .p) below
 
   reached : let a = c .before .before .before .before .before .before .before .before .args in
-      Reached (a .corners .now) (a .begins .now) (beyond (a .corners .now) (a .begins .now) (c .before .loop .p))
+      Reached (a .corners .now) (a .begins .now) (facetAcross (a .corners .now) (a .begins .now) (c .before .loop .p))
   reached =
       let s = c .before .before .before .before .before .before .before .before in
       arc (rw (home-is (s .pre .0 .homes .laid) is-in) at (s .pre .1 .reached)) below
@@ -77,19 +78,19 @@ element-copy-out-push : tie.Need-element-copy-out-push Inv-loop μ-loop
 element-copy-out-push c =
     let i = c .before .before .before .before in
     let s = i .before .before .before .before .before .before .before .before in
-    rw (c .wide3 .ensures .0) (omega (arith, across-entry (s .pre .0 .crossed) (below i) .below, s .pre .0 .homes .laid .short))
+    rw (c .wide3 .ensures .is) (omega (arith, across-entry (s .pre .0 .crossed) (below i) .below, s .pre .0 .homes .laid .short))
 
 push-requires : tie.Need-push-requires Inv-loop μ-loop
 push-requires c κs =
     let i = c .before .before .before .before .before in
     let l = i .before in
-    rw (c .before .wide3 .ensures .0, entry i) (pushing (l .loop .inv .2 .queued) (fits i) (next-facet i))
+    rw (c .before .wide3 .ensures .is, entry i) (pushing (l .loop .inv .2 .queued) (fits i) (next-facet i))
 
 loop-again : tie.Need-loop-again Inv-loop μ-loop
 loop-again c =
     let i = c .before .before .before .before .before .before in
     let a = i .before .before .before .before .before .before .before .before .args in
-    let e = ap (λ k. getD (a .home .now) k 0) (c .before .before .wide3 .ensures .0) ∙ entry i in
+    let e = ap (λ k. getD (a .home .now) k 0) (c .before .before .wide3 .ensures .is) ∙ entry i in
     let h = is-in i .high in (
       omega (arith, i .before .loop .inv .0),
       omega arith,
@@ -101,7 +102,7 @@ returns : tie.Need-returns Inv-loop μ-loop
 returns c =
     let l = c .before in
     let s = l .before .before .before .before .before .before .before in
-    let e : endOf (s .args .begins .now) (s .args .f) ≡ l .loop .p = omega (arith, l .before .wide2 .ensures .0, l .loop .inv .1, c .loop-test .left) in
+    let e : endOf (s .args .begins .now) (s .args .f) ≡ l .loop .p = omega (arith, l .before .wide2 .ensures .is, l .loop .inv .1, c .loop-test .left) in
     rw e (l .loop .inv .2)
 
 pub spread-spec : {M : Type 1} → statement M

@@ -17,12 +17,12 @@ abbrev μ-loop : tie.MeasureT-loop
 head : tie.Need-element-copy-out-wide Inv-loop μ-loop
 head c =
     let (R, h) = c .before .before .before .pre in
-    rw (c .wide .ensures .0) (small R (h .vertex))
+    rw (c .wide .ensures .is) (small R (h .vertex))
 
 loop-holds : tie.Need-loop-holds Inv-loop μ-loop
 loop-holds c =
     let (R, h) = c .before .before .before .before .before .pre in
-    rw (c .wide2 .ensures .0, c .before .before .wide .ensures .0) (best-0 (R .leaving .chains) (small R (h .vertex)) h)
+    rw (c .wide2 .ensures .is, c .before .before .wide .ensures .is) (best-0 (R .leaving .chains) (small R (h .vertex)) h)
 
 room : tie.Need-element-copy-out-at Inv-loop μ-loop
 room c = omega (arith, link-place (c .before .loop .inv) (omega arith), c .before .before .before .before .before .before .before .pre .0 .leaving .laid .short)
@@ -41,7 +41,7 @@ loop-less : tie.Need-loop-less Inv-loop μ-loop
 loop-less c =
     let l = c .before .before .before .before .before .before in
     let (R, h) = l .before .before .before .before .before .before .pre in
-    rw (c .wide3 .ensures .0) (falls (R .leaving .chains) (omega arith) (l .loop .inv .on))
+    rw (c .wide3 .ensures .is) (falls (R .leaving .chains) (omega arith) (l .loop .inv .on))
 
 loop-again : tie.Need-loop-again Inv-loop μ-loop
 loop-again c =
@@ -49,7 +49,7 @@ loop-again c =
     let l = n .before .before .before .before in
     let (R, h) = l .before .before .before .before .before .before .pre in
     let b = link-place (l .loop .inv) (omega arith) in
-    rw (c .wide3 .ensures .0, n .better .ensures, n .before .at .ensures, end-is R b) (best-more (R .leaving .chains) (omega arith) (l .loop .inv) (end-vertex R b))
+    rw (c .wide3 .ensures .is, n .better .ensures, n .before .at .ensures, end-is R b) (best-more (R .leaving .chains) (omega arith) (l .loop .inv) (end-vertex R b))
 
 returns : tie.Need-returns Inv-loop μ-loop
 returns c =

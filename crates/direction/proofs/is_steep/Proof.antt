@@ -7,7 +7,7 @@ use Rattle.direction.proofs.is_steep.Tie as tie
 
 returns : tie.Need-returns
 unfolding isSteep
-returns c = rw (toZ-ofZ (c .before .fits .part)) at (c .is-beyond .ensures)
+returns c = rw (toZ-ofZ (c .before .fits .part)) at (c .exceeds .ensures)
 
 pub is-steep-spec : {M : Type 1} → statement M
 is-steep-spec = tie.close (tie.spec (λ c κs. search needs) returns)

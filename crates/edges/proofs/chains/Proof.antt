@@ -20,7 +20,7 @@ loop-holds c = (search needs, rw (c .before .pre .1, c .before .pre .2) (chains-
 read : tie.Need-element-copy-out-back Inv-loop μ-loop
 read c =
     let l = c .before .before .before in
-    rw (c .wide .ensures .0) (l .before .before .pre .0 .index (l .loop .p) (omega arith))
+    rw (c .wide .ensures .is) (l .before .before .pre .0 .index (l .loop .p) (omega arith))
 
 room : tie.Need-element-write-back Inv-loop μ-loop
 room c = omega (arith, c .before .before .before .before .before .before .pre .0 .short)
@@ -28,7 +28,7 @@ room c = omega (arith, c .before .before .before .before .before .before .pre .0
 loop-again : tie.Need-loop-again Inv-loop μ-loop
 loop-again c =
     let l = c .before .before .before .before in
-    (search needs, rw (c .before .wide .ensures .0) (chains-more (l .loop .inv .1) (l .before .before .pre .0 .index (l .loop .p) (omega arith)) (room c)))
+    (search needs, rw (c .before .wide .ensures .is) (chains-more (l .loop .inv .1) (l .before .before .pre .0 .index (l .loop .p) (omega arith)) (room c)))
 
 returns : tie.Need-returns Inv-loop μ-loop
 returns c =

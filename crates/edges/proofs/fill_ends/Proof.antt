@@ -27,7 +27,7 @@ element-copy-out-wide c = omega (arith, c .before .before .before .before .pre .
 next-in-requires : tie.Need-next-in-requires Inv-loop μ-loop
 next-in-requires c κs =
     let l = c .before .before .before in
-    rw (c .wide .ensures .0) (home-entry (l .before .before .before .pre .0) {p = l .loop .p} (omega arith))
+    rw (c .wide .ensures .is) (home-entry (l .before .before .before .pre .0) {p = l .loop .p} (omega arith))
 
 -- the next place
 next : (c : lts.After-next-in (wide-reads.Asked, wide-reads.Learnt, next-in-reads.Asked, next-in-reads.Learnt) reads.Pre reads.Post Inv-loop μ-loop)
@@ -35,7 +35,7 @@ next : (c : lts.After-next-in (wide-reads.Asked, wide-reads.Learnt, next-in-read
     c .next-in .result ≡ nextOf (l .before .before .before .args .begins .now) (l .loop .p)
 next c =
     let l = c .before .before .before .before in
-    c .next-in .ensures ∙ rw (c .before .wide .ensures .0) (next-entry (l .before .before .before .pre .0) {p = l .loop .p} (omega arith))
+    c .next-in .ensures ∙ rw (c .before .wide .ensures .is) (next-entry (l .before .before .before .pre .0) {p = l .loop .p} (omega arith))
 
 next-small : (c : lts.After-next-in (wide-reads.Asked, wide-reads.Learnt, next-in-reads.Asked, next-in-reads.Learnt) reads.Pre reads.Post Inv-loop μ-loop)
     → c .next-in .result < length (c .before .before .before .before .before .before .before .args .corners .now)

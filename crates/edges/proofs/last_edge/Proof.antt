@@ -14,13 +14,13 @@ abbrev μ-loop : tie.MeasureT-loop
 μ-loop corners begins ends last back a b q₀ q = q
 
 head : tie.Need-element-copy-out-wide Inv-loop μ-loop
-head c = rw (c .wide .ensures .0) (c .before .before .before .pre .1)
+head c = rw (c .wide .ensures .is) (c .before .before .before .pre .1)
 
 loop-holds : tie.Need-loop-holds Inv-loop μ-loop
 loop-holds c =
     let s = c .before .before .before .before .before in
     let a = s .args in
-    rw (c .wide2 .ensures .0, c .before .before .wide .ensures .0)
+    rw (c .wide2 .ensures .is, c .before .before .wide .ensures .is)
     (unmet-0 (s .pre .0 .chains) (edge-within (a .corners .now) (a .begins .now) (a .a) (a .b)) (s .pre .1))
 
 room : tie.Need-element-copy-out-if1 Inv-loop μ-loop
@@ -40,7 +40,7 @@ link c = room (c .before .before)
 loop-less : tie.Need-loop-less Inv-loop μ-loop
 loop-less c =
     let l = c .before .before .before .before .before in
-    rw (c .wide3 .ensures .0) (falls (l .before .before .before .before .before .before .pre .0 .chains) (omega arith) (l .loop .inv .on))
+    rw (c .wide3 .ensures .is) (falls (l .before .before .before .before .before .before .pre .0 .chains) (omega arith) (l .loop .inv .on))
 
 loop-again : tie.Need-loop-again Inv-loop μ-loop
 loop-again c =
@@ -50,7 +50,7 @@ loop-again c =
     let a = s .args in
     let I = s .pre .0 in
     let i = l .loop .inv in
-    rw (c .wide3 .ensures .0)
+    rw (c .wide3 .ensures .is)
     (unmet-more (I .chains) (edge-within (a .corners .now) (a .begins .now) (a .a) (a .b)) (omega arith) i
     (rw (edge-entry (a .b) I (omega (arith, i .on .upto)) (i .on .leads (omega arith))) (ne-eqb _ _ (e .if1 .left))))
 

@@ -38,7 +38,7 @@ returns c =
           n2 .number-of2 .ensures,
           n3 .number-of3 .ensures,
           n4 .number-of4 .ensures,
-          n4 .before .wide .ensures .0,
+          n4 .before .wide .ensures .is,
           n5 .number-of5 .ensures,
           toZ-ofZ (record { sfits = c .before .before .before .before .struct-told .given .1 .1 .0 .1 }),
         ),

@@ -13,11 +13,11 @@ returns c =
     let y = z .before .before in
     let x = y .before .before in
     let p = x .before .before .pre .2 in
-    let x-is = handed w64 (x .part .ensures) tt ∙ read-is w32 (p .x) tt in
-    let y-is = handed w64 (y .part2 .ensures) tt ∙ read-is w32 (p .y) tt in
-    let z-is = handed w64 (z .part3 .ensures) tt ∙ read-is w32 (p .z) tt in
+    let x-is = handed w64 (x .wide-part .ensures) tt ∙ read-is w32 (p .x) tt in
+    let y-is = handed w64 (y .wide-part2 .ensures) tt ∙ read-is w32 (p .y) tt in
+    let z-is = handed w64 (z .wide-part3 .ensures) tt ∙ read-is w32 (p .z) tt in
     let e = c .sum .ensures in (
-      handed w64 e tt ∙ rw (x-is, y-is, z-is, handed w64 (w .before .before .wide .ensures) tt, handed w64 (w .before .wide2 .ensures) tt, handed w64 (w .wide3 .ensures) tt),
+      handed w64 e tt ∙ rw (x-is, y-is, z-is, handed w64 (w .before .before .wide-coord .ensures) tt, handed w64 (w .before .wide-coord2 .ensures) tt, handed w64 (w .wide-coord3 .ensures) tt),
       read-within w64 (e .1) tt,
     )
 

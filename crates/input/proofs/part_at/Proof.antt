@@ -12,7 +12,7 @@ returns c =
     let r = c .before .before .before .before in
     let a = r .before .before .args in
     let e = sym (r .read-at .ensures) ∙ c .before .before .read .given .1 in
-    rw e (toZ-ofZ {w = w32} (sfits-of (c .part .ok)) ∙ c .part .ensures ∙ ap limited (toZ-ofZ {w = w64} (small-at (a .input .now) (a .k) e)))
+    rw e (toZ-ofZ {w = w32} (sfits-of (c .limited .ok)) ∙ c .limited .ensures ∙ ap limited (toZ-ofZ {w = w64} (small-at (a .input .now) (a .k) e)))
 
 returns-2 : tie.Need-returns-2
 returns-2 c = let e = sym (c .before .before .read-at .ensures) ∙ c .enum-told .given .1 in rw e

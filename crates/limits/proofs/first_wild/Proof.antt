@@ -16,11 +16,11 @@ abbrev μ-loop : tie.MeasureT-loop
 
 returns : tie.Need-returns Inv-loop μ-loop
 returns c =
-    found (c .before .before .before .before .loop .inv .1) (rw (← (c .before .wide .ensures .0)) (le-leb _ _ (c .if1 .taken))) (search needs)
+    found (c .before .before .before .before .loop .inv .1) (rw (← (c .before .wide .ensures .is)) (le-leb _ _ (c .if1 .taken))) (search needs)
 
 loop-again : tie.Need-loop-again Inv-loop μ-loop
 loop-again c =
-    (search needs, none-more (c .before .before .before .before .loop .inv .1) (rw (← (c .before .wide .ensures .0)) (lt-leb _ _ (c .if1 .left))))
+    (search needs, none-more (c .before .before .before .before .loop .inv .1) (rw (← (c .before .wide .ensures .is)) (lt-leb _ _ (c .if1 .left))))
 
 pub first-wild-spec : {M : Type 1} → statement M
 first-wild-spec =

@@ -17,12 +17,12 @@ abbrev μ-loop : tie.MeasureT-loop
 named : tie.Need-array-write-named Inv-loop μ-loop
 named c =
     let l = c .before .before .before in
-    rw (c .wide .ensures .0) (l .before .before .pre .index (l .loop .p) (omega arith))
+    rw (c .wide .ensures .is) (l .before .before .pre .index (l .loop .p) (omega arith))
 
 again : tie.Need-loop-again Inv-loop μ-loop
 again c =
     let l = c .before .before .before in
-    (search needs, rw (c .wide .ensures .0) (marks-more (l .loop .inv .1) (l .before .before .pre .index (l .loop .p) (omega arith))))
+    (search needs, rw (c .wide .ensures .is) (marks-more (l .loop .inv .1) (l .before .before .pre .index (l .loop .p) (omega arith))))
 
 returns : tie.Need-returns Inv-loop μ-loop
 returns c =

@@ -19,13 +19,13 @@ abbrev μ-loop : tie.MeasureT-loop
 head : tie.Need-element-copy-out-wide Inv-loop μ-loop
 head c =
     let p = c .before .before .before .before .pre in
-    rw (c .wide .ensures .0) (omega (arith, p .1 .1, p .0 .0 .sound .named .few))
+    rw (c .wide .ensures .is) (omega (arith, p .1 .1, p .0 .0 .sound .named .few))
 
 loop-holds : tie.Need-loop-holds Inv-loop μ-loop
 loop-holds c =
     let s = c .before .before .before .before .before .before in
     let a = s .args in
-    rw (c .wide2 .ensures .0, c .before .before .wide .ensures .0)
+    rw (c .wide2 .ensures .is, c .before .before .wide .ensures .is)
     (unmet-0 (s .pre .0 .1 .chains) (out-within (a .points .now) (a .corners .now) (a .begins .now) (a .part .now) (a .v))
     (omega (arith, s .pre .1 .1, s .pre .0 .0 .sound .named .few)))
 
@@ -53,7 +53,7 @@ returns c =
 loop-less : tie.Need-loop-less Inv-loop μ-loop
 loop-less c =
     let l = c .before .before .before .before .before .before in
-    rw (c .wide3 .ensures .0) (falls (l .before .before .before .before .before .before .before .pre .0 .1 .chains) (omega arith) (l .loop .inv .on))
+    rw (c .wide3 .ensures .is) (falls (l .before .before .before .before .before .before .before .pre .0 .1 .chains) (omega arith) (l .loop .inv .on))
 
 loop-again : tie.Need-loop-again Inv-loop μ-loop
 loop-again c =
@@ -64,7 +64,7 @@ loop-again c =
     let i = l .loop .inv in
     let p : l .loop .q - 1 < length (a .corners .now) = omega (arith, i .on .upto) in
     let e = out-entry (a .points .now) (a .corners .now) (a .begins .now) (a .part .now) (a .v) (l .loop .q - 1) _ (i .on .leads (omega arith)) (s .pre .0 .1 .filled .at (l .loop .q - 1) p) in
-    rw (c .wide3 .ensures .0)
+    rw (c .wide3 .ensures .is)
     (unmet-more (s .pre .0 .1 .chains) (out-within (a .points .now) (a .corners .now) (a .begins .now) (a .part .now) (a .v)) (omega arith) i
     (e ∙ sym (b .before .is-outside .ensures) ∙ b .if1 .left))
 

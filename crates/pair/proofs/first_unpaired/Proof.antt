@@ -27,20 +27,20 @@ shared-slice-read-wide : tie.Need-shared-slice-read-wide Inv-loop μ-loop
 shared-slice-read-wide c =
     let l = c .before .before .before .before .before .before in
     let h = home-entry (l .before .before .before .pre .homes) {p = l .loop .p} (omega arith) in
-    rw (c .before .wide .ensures .0) (omega (arith, h .facet))
+    rw (c .before .wide .ensures .is) (omega (arith, h .facet))
 
 sub : tie.Need-sub-t18 Inv-loop μ-loop
 sub c =
     let l = c .before .before .before .before .before .before .before in
     let h = home-entry (l .before .before .before .pre .homes) {p = l .loop .p} (omega arith) in
-    rw (c .wide2 .ensures .0, c .before .before .wide .ensures .0) (h .low)
+    rw (c .wide2 .ensures .is, c .before .before .wide .ensures .is) (h .low)
 
 returns : tie.Need-returns Inv-loop μ-loop
 returns c =
     let t = c .before .before .before .before in
     let l = t .before .before .before in
     let s = l .before .before .before in
-    rw (c .wide2 .ensures .0, c .before .before .wide .ensures .0, s .pre .homes .filled .at (l .loop .p) (omega arith))
+    rw (c .wide2 .ensures .is, c .before .before .wide .ensures .is, s .pre .homes .filled .at (l .loop .p) (omega arith))
     (flat-hit (s .pre .homes .laid) (unpaired (s .args .corners .now) (s .args .begins .now)) (l .loop .inv .1) (rw (← t .before .unpaired .ensures) (t .if1 .taken)) (omega arith))
 
 loop-again : tie.Need-loop-again Inv-loop μ-loop
@@ -64,7 +64,7 @@ first-unpaired-spec =
     (λ c. omega (arith, room c))
     room
     (λ c κs. search needs)
-    (λ c. omega (arith, c .wide .ensures .1))
+    (λ c. omega (arith, c .wide .ensures .small))
     shared-slice-read-wide
     (λ c κs. search needs)
     sub

@@ -13,20 +13,20 @@ use Rattle.pair.proofs.is_unanswered.Tie as tie
 
 -- the place across is one of the run
 below : (c : lts.After-wide (wide-reads.Asked, wide-reads.Learnt) reads.Pre reads.Post) → c .wide .result < length (c .before .before .before .before .args .corners .now)
-below c = let (a, l) = c .before .before .before .before .pre in rw (c .wide .ensures .0) (entry-below a l)
+below c = let (a, l) = c .before .before .before .before .pre in rw (c .wide .ensures .is) (entry-below a l)
 
 returns : tie.Need-returns
 returns c =
     let w = c .before .before .before in
     let (a, l) = w .before .before .before .before .pre in
-    rw (unlike-entry a l (w .wide .result) (w .wide .ensures .0), ← c .before .wide2 .ensures .0, ne-eqb _ _ (c .if1 .taken))
+    rw (unlike-entry a l (w .wide .result) (w .wide .ensures .is), ← c .before .wide2 .ensures .is, ne-eqb _ _ (c .if1 .taken))
 
 returns-2 : tie.Need-returns-2
 returns-2 c =
     let e = c .before .before .before in
     let w = e .before .before .before in
     let (a, l) = w .before .before .before .before .pre in
-    rw (unlike-entry a l (w .wide .result) (w .wide .ensures .0), ← e .before .wide2 .ensures .0, eq-eqb _ _ (e .if1 .left), ne-eqb _ _ (c .if2 .taken))
+    rw (unlike-entry a l (w .wide .result) (w .wide .ensures .is), ← e .before .wide2 .ensures .is, eq-eqb _ _ (e .if1 .left), ne-eqb _ _ (c .if2 .taken))
 
 returns-3 : tie.Need-returns-3
 returns-3 c =
@@ -34,7 +34,7 @@ returns-3 c =
     let e = t .before .before .before in
     let w = e .before .before .before in
     let (a, l) = w .before .before .before .before .pre in
-    rw (unlike-entry a l (w .wide .result) (w .wide .ensures .0), ← e .before .wide2 .ensures .0, eq-eqb _ _ (e .if1 .left), eq-eqb _ _ (t .if2 .left))
+    rw (unlike-entry a l (w .wide .result) (w .wide .ensures .is), ← e .before .wide2 .ensures .is, eq-eqb _ _ (e .if1 .left), eq-eqb _ _ (t .if2 .left))
 
 pub is-unanswered-spec : {M : Type 1} → statement M
 is-unanswered-spec =

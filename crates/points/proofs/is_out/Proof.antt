@@ -7,7 +7,7 @@ use Rattle.points.proofs.is_out.Tie as tie
 
 returns : tie.Need-returns
 unfolding isOut
-returns c = rw (toZ-ofZ (c .before .fits .x)) at (c .is-beyond .ensures)
+returns c = rw (toZ-ofZ (c .before .fits .x)) at (c .exceeds .ensures)
 
 pub is-out-spec : {M : Type 1} → statement M
 is-out-spec = tie.close (tie.spec (λ c κs. search needs) returns)

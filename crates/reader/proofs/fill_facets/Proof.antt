@@ -8,7 +8,7 @@ use lib.ListN.{getD, length-set}
 use Rattle.whole.specs.Joined.{length-listed}
 use Rattle.whole.specs.Over.{Wrote, wrote}
 use Rattle.tape.specs.Reading.{numbersAt}
-use Rattle.reader.specs.Filling.{Turn, Filling, filling-0, filling-more, by-tray, turn, filled}
+use Rattle.reader.specs.Filling.{ReadsFacet, Filling, filling-0, filling-more, by-tray, reads-facet, filled}
 use Rattle.reader.proofs.fill_facets.Statement.{statement}
 use Rattle.reader.proofs.fill_facets.Tie as tie
 
@@ -21,9 +21,9 @@ abbrev μ-loop : tie.MeasureT-loop
 abbrev start : tie.In-loop Inv-loop μ-loop → tie.Start Inv-loop μ-loop
 start l = l .before .before .before .before .before
 
--- the record of this turn
-here : (l : tie.In-loop Inv-loop μ-loop) → Turn (start l .args .tape .now) (l .before .loop .at) (l .before .loop .c) (l .before .loop .f)
-here l = let p = start l .pre in turn (l .before .loop .inv) (p .0) (p .1) (p .2) (l .loop-test .taken)
+-- the record of this reads-facet
+here : (l : tie.In-loop Inv-loop μ-loop) → ReadsFacet (start l .args .tape .now) (l .before .loop .at) (l .before .loop .c) (l .before .loop .f)
+here l = let p = start l .pre in reads-facet (l .before .loop .inv) (p .0) (p .1) (p .2) (l .loop-test .taken)
 
 abbrev sides : tie.In-loop Inv-loop μ-loop → ℕ
 sides l = getD (start l .args .tape .now) (l .before .loop .at) 0
@@ -34,7 +34,7 @@ numbers l = numbersAt (start l .args .tape .now) (l .before .loop .at + 1) (side
 abbrev gathered : tie.After-tray3 Inv-loop μ-loop → tie.In-loop Inv-loop μ-loop
 gathered c = c .before .before .before .before .before .before
 
--- the tray with the numbers of this turn
+-- the tray with the numbers of this reads-facet
 trayed : (c : tie.After-tray3 Inv-loop μ-loop) → Wrote (numbers (gathered c)) (gathered c .before .loop .tray) (c .before .before .before .gather .last .0)
 trayed c =
     let t = here (gathered c) in
@@ -83,7 +83,7 @@ fill-facets-spec =
     -- store: the tray, requires
     (λ c. gathered c .before .loop .inv .twelve ∙ sym (trayed c .long))
     (λ c κs. let t = here (gathered c) in let w = trayed c in (omega arith, omega arith))
-    -- the next turn
+    -- the next reads-facet
     (λ c. let t = here (turned c) in omega arith)
     (λ c. let t = here (turned c) in omega arith)
     (λ c. let t = here (turned c) in omega arith)

@@ -28,7 +28,7 @@ part-across-requires c κs =
     let e = l .before .before .before .part .ensures in
     let n = rw (← e) at (part-length laid h) in
     let k : l .loop .p < sides (s .args .begins .now) (s .args .f) = omega (arith, n) in
-    (s .pre .0 .1, s .pre .1 .0, rw (l .before .wide .ensures .0) (place-below laid h k))
+    (s .pre .0 .1, s .pre .1 .0, rw (l .before .wide .ensures .is) (place-below laid h k))
 
 is-reflex-requires : tie.Need-is-reflex-requires Inv-loop μ-loop
 is-reflex-requires c κs =
@@ -40,7 +40,7 @@ is-reflex-requires c κs =
     let e = l .before .before .before .part .ensures in
     let n = rw (← e) at (part-length laid h) in
     let k : l .loop .p < sides (s .args .begins .now) (s .args .f) = omega (arith, n) in
-    let b : l .before .wide .result + l .loop .p < length (s .args .corners .now) = rw (l .before .wide .ensures .0) (place-below laid h k) in
+    let b : l .before .wide .result + l .loop .p < length (s .args .corners .now) = rw (l .before .wide .ensures .is) (place-below laid h k) in
     let r = across (s .pre .1 .0 .paired) b in
     (rw e (facet m h), rw (c .part-across .ensures) (facet m (omega (arith, home laid (r .below) .facet))), omega arith)
 
@@ -51,7 +51,7 @@ returns c =
     let s = l .before .before .before .before .before .before in
     let part = l .before .before .before .part .ensures in
     let n = rw (← part) at (part-length (s .pre .0 .0 .sound .laid) (s .pre .1 .1)) in
-    let e = rw (part, c .before .before .part-across .ensures, l .before .wide .ensures .0) at (c .before .is-reflex .ensures) in
+    let e = rw (part, c .before .before .part-across .ensures, l .before .wide .ensures .is) at (c .before .is-reflex .ensures) in
     found (l .loop .inv .1) (sym e ∙ c .if1 .taken) (omega (arith, n))
 
 loop-again : tie.Need-loop-again Inv-loop μ-loop
@@ -59,7 +59,7 @@ unfolding isReflex
 loop-again c =
     let l = c .before .before .before .before in
     let part = l .before .before .before .part .ensures in
-    let e = rw (part, c .before .before .part-across .ensures, l .before .wide .ensures .0) at (c .before .is-reflex .ensures) in
+    let e = rw (part, c .before .before .part-across .ensures, l .before .wide .ensures .is) at (c .before .is-reflex .ensures) in
     (omega arith, none-more (l .loop .inv .1) (sym e ∙ c .if1 .left))
 
 returns-2 : tie.Need-returns-2 Inv-loop μ-loop

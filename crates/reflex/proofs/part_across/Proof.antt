@@ -20,7 +20,7 @@ other : (c : lts.After-wide (wide-reading.Asked, wide-reading.Learnt, part-readi
 other c =
     let s = c .before .before .before .before in
     let (h, a, l) = s .pre in
-    let e = c .wide .ensures .0 ∙ a .filled .at (s .args .q) l in
+    let e = c .wide .ensures .is ∙ a .filled .at (s .args .q) l in
     (e, rw e (across (a .paired) l .below))
 
 home-in : tie.Need-element-copy-out-wide-2
@@ -33,13 +33,13 @@ part-requires c κs =
     let b = c .before .before in
     let s = b .before .before .before .before in
     let h = s .pre .0 in
-    (h .laid, rw (c .wide2 .ensures .0) (omega (arith, home-entry h (other b .1) .facet)))
+    (h .laid, rw (c .wide2 .ensures .is) (omega (arith, home-entry h (other b .1) .facet)))
 
 returns : tie.Need-returns
 returns c =
     let b = c .before .before .before in
     let s = b .before .before .before .before in
-    rw (c .part .ensures, c .before .wide2 .ensures .0, s .pre .0 .filled .at (b .wide .result) (other b .1), other b .0)
+    rw (c .part .ensures, c .before .wide2 .ensures .is, s .pre .0 .filled .at (b .wide .result) (other b .1), other b .0)
 
 pub part-across-spec : {M : Type 1} → statement M
 part-across-spec =

@@ -22,7 +22,7 @@ sub-sides : tie.Need-sub-sides Inv-loop μ-loop
 sub-sides c =
     let l = c .before .before .before .before .before .before in
     let s = l .before .before .before in
-    omega (arith, s .pre .0 .0 .sound .laid .rise (l .loop .f) (omega arith), c .wide2 .ensures .0, c .before .before .wide .ensures .0)
+    omega (arith, s .pre .0 .0 .sound .laid .rise (l .loop .f) (omega arith), c .wide2 .ensures .is, c .before .before .wide .ensures .is)
 
 returns : tie.Need-returns Inv-loop μ-loop
 returns c =
@@ -30,7 +30,7 @@ returns c =
     let l = b .before .before .before .before .before .before in
     let a = l .before .before .before .args in
     facet-hit _ (sides (a .begins .now)) (isReflex (a .points .now) (a .corners .now) (a .begins .now)) (l .loop .inv .1)
-    (rw (ap₂ _-_ (b .before .before .wide .ensures .0) (b .wide2 .ensures .0)) (b .before .before .before .before .first-reflex .ensures)) (ap₂ _-_ (b .before .before .wide .ensures .0) (b .wide2 .ensures .0)) (c .if1 .taken) (omega arith)
+    (rw (ap₂ _-_ (b .before .before .wide .ensures .is) (b .wide2 .ensures .is)) (b .before .before .before .before .first-reflex .ensures)) (ap₂ _-_ (b .before .before .wide .ensures .is) (b .wide2 .ensures .is)) (c .if1 .taken) (omega arith)
 
 loop-again : tie.Need-loop-again Inv-loop μ-loop
 loop-again c =
@@ -39,7 +39,7 @@ loop-again c =
     let a = l .before .before .before .args in (
       omega arith,
       facet-miss (facets (a .begins .now)) (sides (a .begins .now)) (isReflex (a .points .now) (a .corners .now) (a .begins .now)) (l .loop .inv .1)
-          (rw (ap₂ _-_ (b .before .before .wide .ensures .0) (b .wide2 .ensures .0)) (b .before .before .before .before .first-reflex .ensures)) (ap₂ _-_ (b .before .before .wide .ensures .0) (b .wide2 .ensures .0)) (c .if1 .left),
+          (rw (ap₂ _-_ (b .before .before .wide .ensures .is) (b .wide2 .ensures .is)) (b .before .before .before .before .first-reflex .ensures)) (ap₂ _-_ (b .before .before .wide .ensures .is) (b .wide2 .ensures .is)) (c .if1 .left),
     )
 
 returns-2 : tie.Need-returns-2 Inv-loop μ-loop

@@ -17,25 +17,25 @@ abbrev μ-loop : tie.MeasureT-loop
 returns : tie.Need-returns Inv-loop μ-loop
 returns c =
     let s = c .before .before .before .before .before in
-    turning-none (s .pre .1) (s .args .begins .now) (s .pre .2) (sym (c .before .wide .ensures .0) ∙ c .if1 .taken)
+    turning-none (s .pre .1) (s .args .begins .now) (s .pre .2) (sym (c .before .wide .ensures .is) ∙ c .if1 .taken)
 
 start : tie.Need-element-copy-out-wide-2 Inv-loop μ-loop
 start c =
     let s = c .before .before .before .before .before in
-    rw (c .before .wide .ensures .0) (omega (arith, on-0 (s .pre .1) (s .pre .2) .upto, s .pre .0 .homes .laid .short))
+    rw (c .before .wide .ensures .is) (omega (arith, on-0 (s .pre .1) (s .pre .2) .upto, s .pre .0 .homes .laid .short))
 
 loop-holds : tie.Need-loop-holds Inv-loop μ-loop
 loop-holds c =
     let e = c .before .before in
     let s = e .before .before .before .before .before in
-    let w = e .before .wide .ensures .0 in
-    rw (c .wide2 .ensures .0) (turning-0 (s .pre .1) (s .args .begins .now) (e .before .wide .result - 1) (s .pre .2) (sym w ∙ omega (arith, e .if1 .left)))
+    let w = e .before .wide .ensures .is in
+    rw (c .wide2 .ensures .is) (turning-0 (s .pre .1) (s .args .begins .now) (e .before .wide .result - 1) (s .pre .2) (sym w ∙ omega (arith, e .if1 .left)))
 
-step-requires : tie.Need-step-requires Inv-loop μ-loop
-step-requires c κs = let l = c .before in (l .before .before .before .before .before .before .before .before .pre .0, l .loop .inv .below)
+round-requires : tie.Need-round-requires Inv-loop μ-loop
+round-requires c κs = let l = c .before in (l .before .before .before .before .before .before .before .before .pre .0, l .loop .inv .below)
 
 returns-2 : tie.Need-returns-2 Inv-loop μ-loop
-returns-2 c = let l = c .before .before .before in turning-back (l .loop .inv) (omega arith) (c .before .step .ensures) (c .if2 .taken)
+returns-2 c = let l = c .before .before .before in turning-back (l .loop .inv) (omega arith) (c .before .round .ensures) (c .if2 .taken)
 
 link : tie.Need-element-copy-out-wide-3 Inv-loop μ-loop
 link c =
@@ -45,15 +45,15 @@ link c =
 loop-less : tie.Need-loop-less Inv-loop μ-loop
 loop-less c =
     let l = c .before .before .before .before .before in
-    rw (c .wide3 .ensures .0) (falls (l .before .before .before .before .before .before .before .before .pre .1) (omega arith) (l .loop .inv .met .on))
+    rw (c .wide3 .ensures .is) (falls (l .before .before .before .before .before .before .before .before .pre .1) (omega arith) (l .loop .inv .met .on))
 
 loop-again : tie.Need-loop-again Inv-loop μ-loop
 loop-again c =
     let e = c .before .before in
     let l = e .before .before .before in
     let s = l .before .before .before .before .before .before .before .before in
-    rw (c .wide3 .ensures .0)
-    (turning-more (s .pre .1) (l .loop .inv) (s .pre .0 .homes .laid) (s .pre .0 .crossed .paired) (omega arith) (e .before .step .ensures) (e .if2 .left))
+    rw (c .wide3 .ensures .is)
+    (turning-more (s .pre .1) (l .loop .inv) (s .pre .0 .homes .laid) (s .pre .0 .crossed .paired) (omega arith) (e .before .round .ensures) (e .if2 .left))
 
 pub broken-spec : {M : Type 1} → statement M
 broken-spec =
@@ -70,7 +70,7 @@ broken-spec =
     start
     (λ c κs. search needs)
     loop-holds
-    step-requires
+    round-requires
     returns-2
     (λ c. omega arith)
     (λ c. omega (arith, link c))

@@ -2,12 +2,12 @@
 use borrow.Author.Needs.{needs, sfits-of}
 use mir.Facts.{toZ-ofZ}
 use Rattle.space.specs.Vectors.{_-_}
-use Rattle.sides.specs.Sides.{stepOf}
+use Rattle.sides.specs.Sides.{differenceOf}
 use Rattle.sides.proofs.is_left.Statement.{statement}
 use Rattle.sides.proofs.is_left.Tie as tie
 
 returns : tie.Need-returns
-unfolding stepOf _-_
+unfolding differenceOf _-_
 returns c =
     let d = c .before .determinant in
     rw (c .is-above .ensures, toZ-ofZ (sfits-of (d .ok)), d .ensures, c .before .before .before .row .ensures .0, c .before .before .row2 .ensures .0)

@@ -3,7 +3,7 @@ use borrow.Author.Needs.{needs, sfits-of}
 use mir.Facts.{toZ-ofZ}
 use Rattle.space.specs.Vectors.{_-_}
 use Rattle.space.specs.Rows.{row-wide}
-use Rattle.sides.specs.Sides.{stepOf}
+use Rattle.sides.specs.Sides.{differenceOf}
 use Rattle.sides.proofs.side_of.Statement.{statement}
 use Rattle.sides.proofs.side_of.Tie as tie
 
@@ -11,7 +11,7 @@ determinant-requires : tie.Need-determinant-requires
 determinant-requires c κs = record { first = row-wide (c .before .before .row .ensures .1); second = c .before .row2 .ensures .1; third = c .row3 .ensures .1 }
 
 returns : tie.Need-returns
-unfolding stepOf _-_
+unfolding differenceOf _-_
 returns c =
     let r = c .before .before in
     rw (c .sign .ensures, toZ-ofZ (sfits-of (c .before .determinant .ok)), c .before .determinant .ensures, r .before .before .row .ensures .0, r .before .row2 .ensures .0, r .row3 .ensures .0)

@@ -6,11 +6,11 @@ use lib.IntN.{ℤ, _-ℤ_, _*ℤ_}
 use mir.Syntax.{w64}
 use Rattle.whole.specs.Machine.{read, read-is, read-within, handed}
 use Rattle.space.specs.Plane.{vec, det}
-use Rattle.space.specs.Rows.{Step, Minor, row-of}
+use Rattle.space.specs.Rows.{Difference, Minor, row-of}
 use Rattle.space.proofs.cross.Statement.{statement}
 use Rattle.space.proofs.cross.Tie as tie
 
-part : {a b c d r : ℤ} → Step a → Step b → Step c → Step d → (r ≡ det (vec (read w64 a) (read w64 b)) (vec (read w64 c) (read w64 d))) × Minor r
+part : {a b c d r : ℤ} → Difference a → Difference b → Difference c → Difference d → (r ≡ det (vec (read w64 a) (read w64 b)) (vec (read w64 c) (read w64 d))) × Minor r
     → read w64 r ≡ a *ℤ d -ℤ b *ℤ c
 unfolding det
 part ha hb hc hd h = handed w64 h tt ∙ rw (read-is w64 ha tt, read-is w64 hb tt, read-is w64 hc tt, read-is w64 hd tt)

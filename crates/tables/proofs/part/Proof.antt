@@ -8,21 +8,21 @@ use Rattle.tables.proofs.part.Tie as tie
 sub-result : tie.Need-sub-result
 sub-result c =
     let s = c .before .before .before .before .before .before in
-    omega (arith, s .pre .0 .rise (s .args .f) (omega (arith, s .pre .0 .some)), c .before .before .wide .ensures .0, c .wide2 .ensures .0)
+    omega (arith, s .pre .0 .rise (s .args .f) (omega (arith, s .pre .0 .some)), c .before .before .wide .ensures .is, c .wide2 .ensures .is)
 
 part-result-start : tie.Need-part-result-start
 part-result-start c =
     let s = c .before .before .before .before .before .before in
     let l = s .pre .0 in
-    omega (arith, l .rise (s .args .f) (omega (arith, l .some)), end-in-run l (s .pre .1), c .before .before .wide .ensures .0)
+    omega (arith, l .rise (s .args .f) (omega (arith, l .some)), end-in-run l (s .pre .1), c .before .before .wide .ensures .is)
 
 part-result-end : tie.Need-part-result-end
 part-result-end c =
     let s = c .before .before .before .before .before .before in
-    omega (arith, end-in-run (s .pre .0) (s .pre .1), c .wide2 .ensures .0)
+    omega (arith, end-in-run (s .pre .0) (s .pre .1), c .wide2 .ensures .is)
 
 returns : tie.Need-returns
-returns c = rw (c .before .wide2 .ensures .0, c .before .before .before .wide .ensures .0)
+returns c = rw (c .before .wide2 .ensures .is, c .before .before .before .wide .ensures .is)
 
 pub part-spec : {M : Type 1} → statement M
 part-spec =

@@ -8,7 +8,7 @@ returns : tie.Need-returns
 returns c = rw (ne-eqb _ _ (c .if1 .taken))
 
 returns-2 : tie.Need-returns-2
-returns-2 c = rw (eq-eqb _ _ (c .before .before .if1 .left), c .wide .ensures .0)
+returns-2 c = rw (eq-eqb _ _ (c .before .before .if1 .left), c .wide .ensures .is)
 
 pub wrong-ends-spec : {M : Type 1} → statement M
 wrong-ends-spec =

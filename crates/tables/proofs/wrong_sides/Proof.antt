@@ -6,10 +6,10 @@ use Rattle.tables.proofs.wrong_sides.Statement.{statement}
 use Rattle.tables.proofs.wrong_sides.Tie as tie
 
 returns : tie.Need-returns
-returns c = rw (← (c .before .before .before .wide .ensures .0), ← (c .before .wide2 .ensures .0), lt-ltb _ _ (c .if1 .taken))
+returns c = rw (← (c .before .before .before .wide .ensures .is), ← (c .before .wide2 .ensures .is), lt-ltb _ _ (c .if1 .taken))
 
 returns-2 : tie.Need-returns-2
-returns-2 c = rw (← (c .before .before .before .wide .ensures .0), ← (c .before .wide2 .ensures .0), le-ltb _ _ (c .if1 .left))
+returns-2 c = rw (← (c .before .before .before .wide .ensures .is), ← (c .before .wide2 .ensures .is), le-ltb _ _ (c .if1 .left))
 
 pub wrong-sides-spec : {M : Type 1} → statement M
 wrong-sides-spec =

@@ -27,8 +27,8 @@ small : {x : ℤ} → SFits w16 x → Fits w16 (bits x)
 unfolding bits
 small h = fits-ofZ h
 
-wide : {x : ℤ} → SFits w16 x → SFits w32 (pos (bits x))
-wide h = let s = small h in record { sfits = omega arith }
+fits-32 : {x : ℤ} → SFits w16 x → SFits w32 (pos (bits x))
+fits-32 h = let s = small h in record { sfits = omega arith }
 
 -- what the machine has before the cast: the sixteen bits
 module _ (c : tie.Then1) where
@@ -42,16 +42,16 @@ module _ (c : tie.Else1) where
   as-it-is = let e = toZ-ofZ (c .before .fits .x) in rw e (kept (c .before .args .x) (rw e at (c .if1 .left)))
 
 cast-result : tie.Need-cast-result
-cast-result c = rw (lifted c, toZ-ofZ (wide (c .before .pre))) (tt, small (c .before .pre))
+cast-result c = rw (lifted c, toZ-ofZ (fits-32 (c .before .pre))) (tt, small (c .before .pre))
 
 returns : tie.Need-returns
-returns c = rw (lifted c, toZ-ofZ (wide (c .before .pre)))
+returns c = rw (lifted c, toZ-ofZ (fits-32 (c .before .pre)))
 
 pub bits-of-spec : {M : Type 1} → statement M
 bits-of-spec =
     tie.close
     (tie.spec
-    (λ c. rw (lifted c) (wide (c .before .pre)))
+    (λ c. rw (lifted c) (fits-32 (c .before .pre)))
     cast-result
     returns
     (λ c. rw (as-it-is c) (tt, small (c .before .pre)))

@@ -7,9 +7,9 @@ use native.Mathlib.Omega.{arith}
 use lib.ListN.{length}
 use Rattle.tables.specs.Tables.{facets, begin, facetOf}
 use Rattle.whole.specs.Joined.{joined-0, joined-more}
-use Rattle.whole.specs.Over.{Wrote, wrote-none, over, part, handed, length-part}
-use Rattle.tape.specs.Records.{bytes, facet, facetBytes, parted, length-packed, length-facets}
-use Rattle.writer.specs.Records.{Turn, turn}
+use Rattle.whole.specs.Over.{Wrote, wrote-none, over, window, handed, length-window}
+use Rattle.tape.specs.Records.{bytes, facet, facetBytes, divided, length-packed, length-facets}
+use Rattle.writer.specs.Records.{WritesFacet, writes-facet}
 use Rattle.writer.proofs.put_facets.Statement.{statement}
 use Rattle.writer.proofs.put_facets.Tie as tie
 
@@ -22,7 +22,7 @@ abbrev μ-loop : tie.MeasureT-loop
 loop-holds : tie.Need-loop-holds Inv-loop μ-loop
 loop-holds c = (search needs, rw (c .before .before .before .pre .0 .start), rw joined-0 (wrote-none _))
 
--- the facet of this turn
+-- the facet of this writes-facet
 module _ (c : tie.After-part Inv-loop μ-loop) where
   abbrev loop : tie.At-loop Inv-loop μ-loop
   loop = c .before .before
@@ -30,11 +30,11 @@ module _ (c : tie.After-part Inv-loop μ-loop) where
   abbrev start : tie.Start Inv-loop μ-loop
   start = loop .before .before .before .before
 
-  here : Turn (start .args .corners .now) (start .args .begins .now) (c .part .result .now) (loop .loop .at) (loop .loop .f)
-  here = turn (start .pre .0) (c .before .loop-test .taken) (loop .loop .inv .1) (c .part .ensures)
+  here : WritesFacet (start .args .corners .now) (start .args .begins .now) (c .part .result .now) (loop .loop .at) (loop .loop .f)
+  here = writes-facet (start .pre .0) (c .before .loop-test .taken) (loop .loop .inv .1) (c .part .ensures)
 
 put-facet-requires : tie.Need-put-facet-requires Inv-loop μ-loop
-put-facet-requires c κs = let t = here (c .before) in rw length-part (omega arith, omega arith)
+put-facet-requires c κs = let t = here (c .before) in rw length-window (omega arith, omega arith)
 
 loop-again : tie.Need-loop-again Inv-loop μ-loop
 loop-again c =
@@ -44,8 +44,8 @@ loop-again c =
     let a = start b .args in
     let cs = facetOf (a .corners .now) (a .begins .now) (g .f) in
     let n : length (b .part .result .now) ≡ length cs = ap length (b .part .ensures) in
-    let e = c .before .before .put-facet .ensures ∙ ap (λ (l : List ℕ). over (bytes (facet l)) (part (g .buffer) (g .at))) (b .part .ensures) in
-    let w = handed (g .inv .2) (bytes (facet cs)) (g .at) e (length-facets (parted (start b .pre .0)) (g .f) (omega arith) ∙ sym (g .inv .1)) (rw length-packed (omega arith)) in
+    let e = c .before .before .put-facet .ensures ∙ ap (λ (l : List ℕ). over (bytes (facet l)) (window (g .buffer) (g .at))) (b .part .ensures) in
+    let w = handed (g .inv .2) (bytes (facet cs)) (g .at) e (length-facets (divided (start b .pre .0)) (g .f) (omega arith) ∙ sym (g .inv .1)) (rw length-packed (omega arith)) in
     (search needs, t .next, rw joined-more w)
 
 returns : tie.Need-returns Inv-loop μ-loop
@@ -62,12 +62,12 @@ put-facets-spec =
     (λ c. search needs)
     loop-holds
     (λ c κs. (c .before .before .before .before .before .pre .0, c .loop-test .taken))
-    -- put_facet: the part of the buffer, requires
+    -- put_facet: the window of the buffer, requires
     (λ c. let t = here c in omega arith)
     (λ c. let t = here c in omega arith)
     (λ c. search needs)
     put-facet-requires
-    -- the next turn
+    -- the next writes-facet
     (λ c. let t = here (c .before .before .before .before) in omega arith)
     (λ c. let t = here (c .before .before .before .before) in omega arith)
     (λ c. let t = here (c .before .before .before .before) in omega arith)

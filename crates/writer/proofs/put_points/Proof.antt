@@ -9,7 +9,7 @@ use mir.Val.{SFits, toZ, ofZ}
 use Rattle.points.specs.Points.{vertices, coordOf}
 use Rattle.tape.specs.Little.{read-back}
 use Rattle.whole.specs.Joined.{joined-0, joined-more}
-use Rattle.whole.specs.Over.{Wrote, wrote-none, handed, length-part}
+use Rattle.whole.specs.Over.{Wrote, wrote-none, handed, length-window}
 use Rattle.tape.specs.Records.{bytes, pointOf, pointBytes, length-packed, length-points}
 use Rattle.writer.proofs.put_points.Statement.{statement}
 use Rattle.writer.proofs.put_points.Tie as tie
@@ -38,7 +38,7 @@ module _ (c : tie.After-coord3 Inv-loop μ-loop) where
 put-point-requires : tie.Need-put-point-requires Inv-loop μ-loop
 put-point-requires c κs =
     let b = c .before in
-    rw (length-part, read b 0 (lit< tt) (b .before .before .coord .ensures), read b 1 (lit< tt) (b .before .coord2 .ensures), read b 2 (lit< tt) (b .coord3 .ensures))
+    rw (length-window, read b 0 (lit< tt) (b .before .before .coord .ensures), read b 1 (lit< tt) (b .before .coord2 .ensures), read b 2 (lit< tt) (b .coord3 .ensures))
     (search needs, fits b 0 (lit< tt), fits b 1 (lit< tt), fits b 2 (lit< tt))
 
 loop-again : tie.Need-loop-again Inv-loop μ-loop

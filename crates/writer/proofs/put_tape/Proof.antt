@@ -6,8 +6,8 @@ use native.Mathlib.Omega.{arith}
 use lib.ListN.{length}
 use Rattle.points.specs.Points.{vertices}
 use Rattle.tables.specs.Tables.{facets}
-use Rattle.whole.specs.Over.{Wrote, wrote, back, handed, length-part}
-use Rattle.tape.specs.Records.{pointBytes, facetBytes, recordBytes, parted, length-packed, length-points, length-all-facets, length-records}
+use Rattle.whole.specs.Over.{Wrote, wrote, back, handed, length-window}
+use Rattle.tape.specs.Records.{pointBytes, facetBytes, recordBytes, divided, length-packed, length-points, length-all-facets, length-records}
 use Rattle.tape.specs.Tape.{ending, tape}
 use Rattle.limits.specs.InOrder.{laid}
 use Rattle.writer.specs.Owed.{Long, long, placed}
@@ -38,7 +38,7 @@ module _ (c : tie.After-put-facets) where
       let a = start (first second) .args in
       let l = sizes (first second) in
       handed (points second) (facetBytes (a .corners .now) (a .begins .now) (facets (a .begins .now))) (7 * vertices (a .points .now)) (c .put-facets .ensures)
-      (length-points (a .points .now) (vertices (a .points .now))) (rw (length-all-facets (parted (laid (start (first second) .pre .0)))) (omega arith))
+      (length-points (a .points .now) (vertices (a .points .now))) (rw (length-all-facets (divided (laid (start (first second) .pre .0)))) (omega arith))
 
 module _ (c : tie.After-put-counts) where
   abbrev third : tie.After-put-facets
@@ -54,7 +54,7 @@ module _ (c : tie.After-put-counts) where
       let a = start (first (second third)) .args in
       let l = sizes (first (second third)) in
       handed (records third) (ending (vertices (a .points .now)) (facets (a .begins .now))) end (c .put-counts .ensures)
-      (length-records (a .points .now) (parted (laid (start (first (second third)) .pre .0))) ∙ omega arith) (rw length-packed (omega arith))
+      (length-records (a .points .now) (divided (laid (start (first (second third)) .pre .0))) ∙ omega arith) (rw length-packed (omega arith))
 
 pub put-tape-spec : {M : Type 1} → statement M
 put-tape-spec =
@@ -71,13 +71,13 @@ put-tape-spec =
     (λ c. let l = sizes (first (c .before .before)) in let w = points (c .before .before) in omega arith)
     (λ c. let l = sizes (first (c .before .before)) in let w = points (c .before .before) in omega arith)
     (λ c. search needs)
-    (λ c κs. let b = c .before .before .before in let l = sizes (first b) in let w = points b in (laid (start (first b) .pre .0), rw length-part (omega arith)))
+    (λ c κs. let b = c .before .before .before in let l = sizes (first b) in let w = points b in (laid (start (first b) .pre .0), rw length-window (omega arith)))
     -- the end: the part of the buffer, the counts, requires
     (λ c. let b = c .before .before in let l = sizes (first (second b)) in let w = records b in omega arith)
     (λ c. let b = c .before .before in let l = sizes (first (second b)) in let w = records b in omega arith)
     (λ c. search needs)
     (λ c. let l = sizes (first (second (c .before .before .before))) in omega arith)
     (λ c. let l = sizes (first (second (c .before .before .before))) in omega arith)
-    (λ c κs. let b = c .before .before .before in let l = sizes (first (second b)) in let w = records b in rw length-part (omega arith))
+    (λ c κs. let b = c .before .before .before in let l = sizes (first (second b)) in let w = records b in rw length-window (omega arith))
     (λ c. whole (c .before .before) .long)
     (λ c. whole (c .before .before) .is))

@@ -3,7 +3,7 @@ use borrow.Author.Needs.{needs}
 use mir.Syntax.{w32}
 use mir.Val.{SFits}
 use mir.Facts.{toZ-ofZ}
-use Rattle.whole.specs.Bounds.{within-fits, within-beyond}
+use Rattle.whole.specs.Bounds.{within-fits, within-exceeds}
 use Rattle.cases_main.proofs.numbers.signed.Statement.{statement}
 use Rattle.cases_main.proofs.numbers.signed.Tie as tie
 
@@ -11,7 +11,7 @@ cast-result : tie.Need-cast-result
 cast-result c =
     let s = c .before .before in
     let f = toZ-ofZ (s .fits .z) in
-    let h = within-beyond 2147483647 (s .args .z) (rw (rw f at (c .before .if1 .left), rw f at (c .if2 .left))) in
+    let h = within-exceeds 2147483647 (s .args .z) (rw (rw f at (c .before .if1 .left), rw f at (c .if2 .left))) in
     rw f (within-fits h tt)
 
 pub signed-spec : {M : Type 1} → statement M

@@ -6,7 +6,7 @@ use Rattle.height.proofs.Spot.at.Statement.{statement}
 use Rattle.height.proofs.Spot.at.Tie as tie
 
 returns : tie.Need-returns
-returns c = rw (handed w64 (c .height .ensures) tt, c .before .wide .ensures .0)
+returns c = rw (handed w64 (c .height .ensures) tt, c .before .wide .ensures .is)
 
 pub at-spec : {M : Type 1} → statement M
 at-spec = tie.close (tie.spec (λ c κs. search needs) (λ c κs. search needs) returns)

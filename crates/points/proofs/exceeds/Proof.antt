@@ -1,10 +1,10 @@
--- `points::is_beyond` meets its contract. Assumes nothing.
+-- `points::exceeds` meets its contract. Assumes nothing.
 use mathlib.Core.Path.{_≡_}
 use mathlib.Core.Bool.{true, false}
 use lib.Signed.{ltZ}
 use mir.Facts.{toZ-ofZ}
-use Rattle.points.proofs.is_beyond.Statement.{statement}
-use Rattle.points.proofs.is_beyond.Tie as tie
+use Rattle.points.proofs.exceeds.Statement.{statement}
+use Rattle.points.proofs.exceeds.Tie as tie
 
 returns : tie.Need-returns
 returns c =
@@ -18,5 +18,5 @@ returns-2 c =
     let e : ltZ (c .before .args .x) (c .before .args .least) ≡ false = rw (toZ-ofZ (f .x), toZ-ofZ (f .least)) at (c .if1 .left) in
     rw (toZ-ofZ (f .x), toZ-ofZ (f .most), e)
 
-pub is-beyond-spec : {M : Type 1} → statement M
-is-beyond-spec = tie.close (tie.spec returns returns-2)
+pub exceeds-spec : {M : Type 1} → statement M
+exceeds-spec = tie.close (tie.spec returns returns-2)

@@ -1,4 +1,4 @@
--- `input::part` meets its contract. Assumes nothing.
+-- `input::limited` meets its contract. Assumes nothing.
 use mathlib.Core.Path.{_≡_}
 use mir.Syntax.{w32}
 use mir.Val.{SFits}
@@ -6,8 +6,8 @@ use mir.Facts.{toZ-ofZ}
 use Rattle.whole.specs.Bounds.{_within_, within-fits}
 use Rattle.direction.specs.Direction.{steepest}
 use Rattle.input.specs.Input.{limited, part-low, part-high, part-within}
-use Rattle.input.proofs.part.Statement.{statement}
-use Rattle.input.proofs.part.Tie as tie
+use Rattle.input.proofs.limited.Statement.{statement}
+use Rattle.input.proofs.limited.Tie as tie
 
 returns-2 : tie.Need-returns-2
 returns-2 c =
@@ -25,8 +25,8 @@ module _ (c : tie.Else2) where
   fits : SFits w32 (c .before .before .args .z)
   fits = within-fits (inside .0) tt
 
-pub part-spec : {M : Type 1} → statement M
-part-spec =
+pub limited-spec : {M : Type 1} → statement M
+limited-spec =
     tie.close
     (tie.spec
     (λ c. part-low (c .before .args .z) (rw (toZ-ofZ (c .before .fits .z)) at (c .if1 .taken)))

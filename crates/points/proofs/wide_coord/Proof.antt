@@ -1,9 +1,9 @@
--- `points::wide` meets its contract. Assumes nothing.
+-- `points::wide_coord` meets its contract. Assumes nothing.
 use borrow.Author.Needs.{needs, sfits-of}
 use mathlib.Core.Path.{_∙_}
 use mir.Facts.{toZ-ofZ}
-use Rattle.points.proofs.wide.Statement.{statement}
-use Rattle.points.proofs.wide.Tie as tie
+use Rattle.points.proofs.wide_coord.Statement.{statement}
+use Rattle.points.proofs.wide_coord.Tie as tie
 
 returns : tie.Need-returns
 returns c =
@@ -11,5 +11,5 @@ returns c =
     let e = toZ-ofZ (sfits-of (c .widen .ok)) ∙ c .widen .ensures ∙ toZ-ofZ (sfits-of (c .before .coord .ok)) ∙ c .before .coord .ensures in
     (e, rw e (h _ _ l k))
 
-pub wide-spec : {M : Type 1} → statement M
-wide-spec = tie.close (tie.spec (λ c κs. search needs) (λ c κs. search needs) returns)
+pub wide-coord-spec : {M : Type 1} → statement M
+wide-coord-spec = tie.close (tie.spec (λ c κs. search needs) (λ c κs. search needs) returns)

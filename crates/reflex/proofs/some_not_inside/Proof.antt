@@ -1,0 +1,38 @@
+-- `reflex::some_not_inside` meets its contract: the law of searches, over the corners of the facet across. Assumes nothing.
+use borrow.Author.Needs.{needs}
+use mathlib.Core.Path.{sym, _∙_}
+use native.Mathlib.Omega.{arith}
+use Prim.Native.Nat.{_-_, _≤_}
+use lib.ListN.{length, getD}
+use Rattle.whole.specs.First.{None, none-0, none-more, any-hit, any-miss}
+use Rattle.reflex.specs.Rules.{isNotInside}
+use Rattle.reflex.proofs.some_not_inside.Statement.{statement}
+use Rattle.reflex.proofs.some_not_inside.Tie as tie
+
+abbrev Inv-loop : tie.InvT-loop
+Inv-loop points part other a b r₀ r = (r ≤ length other) × None (λ r. isNotInside points part a b (getD other r 0)) r
+
+abbrev μ-loop : tie.MeasureT-loop
+μ-loop points part other a b r₀ r = length other - r
+
+is-not-inside-requires : tie.Need-is-not-inside-requires Inv-loop μ-loop
+is-not-inside-requires c κs =
+    let l = c .before .before in
+    let (f, g) = l .before .before .before .pre in
+    (f, g .named (l .loop .r) (omega arith))
+
+pub some-not-inside-spec : {M : Type 1} → statement M
+some-not-inside-spec =
+    tie.close
+    (tie.spec
+    Inv-loop
+    μ-loop
+    (λ c. (omega arith, none-0 _))
+    (λ c. search needs)
+    (λ c. search needs)
+    is-not-inside-requires
+    (λ c. any-hit (c .before .before .before .before .loop .inv .1) (sym (c .before .is-not-inside .ensures) ∙ c .if1 .taken) (omega arith))
+    (λ c. omega arith)
+    (λ c. omega arith)
+    (λ c. (omega arith, none-more (c .before .before .before .before .loop .inv .1) (sym (c .before .is-not-inside .ensures) ∙ c .if1 .left)))
+    (λ c. any-miss (c .before .loop .inv .1) (omega arith) (omega arith)))
