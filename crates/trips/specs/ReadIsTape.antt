@@ -147,8 +147,8 @@ module _ {s : List ℕ} (b : Bytes s) {v f c : ℕ} (w : Whole s v f c) where
       three i (suc (suc zero)) = signed-fits (number-fits b (i + 4))
       three i (suc (suc (suc j))) = sfits-lit tt
 
-  parted : Divided corners begins
-  divided = record {
+  is-divided : Divided corners begins
+  is-divided = record {
     some = rw length-listed (omega arith);
     most = rw length-listed (omega (arith, h .few));
     short = h .short;
@@ -171,7 +171,7 @@ module _ {s : List ℕ} (b : Bytes s) {v f c : ℕ} (w : Whole s v f c) where
     holds = record {
       threes = rw (count-points) (length-points-at s 0 v);
       placed = placed;
-      divided = parted;
+      divided = is-divided;
       numbers = λ k l. let m : k < f = rw count-facets at l in rw (facet-is k m) (sixteen-from k);
     };
     same = same;
