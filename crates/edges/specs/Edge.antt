@@ -2,15 +2,13 @@
 use mathlib.Core.Path.{_≡_}
 use mathlib.Core.List.{List}
 use Prim.Native.Nat.{ℕ, _-_, _<_}
-use lib.ListN.{length, getD}
+use lib.ListN.{length}
 use Rattle.whole.specs.Count.{lastBelow, last}
 use Rattle.tables.specs.Tables.{homeOf, from, to}
 use native.Mathlib.Omega.{arith}
 use mathlib.Core.Bool.{Bool, _&&_}
 use lib.Dec.{eqb}
-use borrow.Author.Tests.{eq-eqb}
 use Rattle.edges.specs.Chains.{leaves, Within}
-use Rattle.edges.specs.Index.{Leaving}
 
 -- the edge at place p goes from a to b
 abbrev pub isEdge : List ℕ → List ℕ → ℕ → ℕ → ℕ → Bool
@@ -40,8 +38,3 @@ across-below corners begins {p} l = omega (arith, last (isEdge corners begins (t
 
 pub edge-within : (corners begins : List ℕ) (a b : ℕ) → Within corners a (isEdge corners begins a b)
 edge-within corners begins a b p e = rw e
-
--- where the edge at p leaves a, the code looks at its end
-pub edge-entry : {corners begins ends last back : List ℕ} {a p : ℕ} (b : ℕ) → Leaving corners begins ends last back → p < length corners → from corners p ≡ a
-    → isEdge corners begins a b p ≡ eqb (getD ends p 0) b
-edge-entry {p = p} b I l e = rw (eq-eqb _ _ e, I .filled .at p l)

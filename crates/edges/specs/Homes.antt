@@ -1,32 +1,16 @@
 -- The facet of each place, in one pass over the run. Assumes nothing.
-use mathlib.Core.Path.{_≡_, refl, ap}
+use mathlib.Core.Path.{_≡_, refl}
 use mathlib.Core.Bool.{Bool, true, false, cond}
 use mathlib.Core.List.{List}
 use Prim.Native.Nat.{ℕ, _+_, _-_, _≤_, _<_}
 use native.Mathlib.Omega.{arith}
 use native.Mathlib.Decide.{decLt}
 use lib.Dec.{eqb}
-use lib.ListN.{length, getD}
+use lib.ListN.{length}
 use borrow.Author.Tests.{eqb-true, eqb-false}
-use Rattle.whole.specs.Filled.{Filled}
-use Rattle.tables.specs.Tables.{begin, end, homeOf, nextIn, nextOf}
+use Rattle.tables.specs.Tables.{begin, end}
 use Rattle.tables.specs.Size.{Laid}
-use Rattle.tables.specs.Places.{In, home}
-
--- `home` holds the facet of each place
-pub record Homes (corners begins home : List ℕ) : Type 0 where
-  pub laid : Laid corners begins
-  pub filled : Filled 6144 home (homeOf begins) (length corners)
-
-module _ {corners begins table : List ℕ} (H : Homes corners begins table) {p : ℕ} (l : p < length corners) where
-  pub home-entry : In begins (getD table p 0) p
-  home-entry = rw (H .filled .at p l) (home (H .laid) l)
-
-  pub next-entry : nextIn begins (getD table p 0) p ≡ nextOf begins p
-  unfolding nextOf
-  next-entry = ap (λ f. nextIn begins f p) (H .filled .at p l)
-
--- ---- one pass
+use Rattle.tables.specs.Places.{In}
 
 -- the facet of place p, where f is that of the place before, or the first
 abbrev pub homeOn : List ℕ → ℕ → ℕ → ℕ

@@ -2,5 +2,6 @@
 pub mod Homes
 pub mod Chains
 pub mod Listed
-pub mod Index
 pub mod Edge
+pub mod Index
+pub mod Along

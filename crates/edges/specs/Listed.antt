@@ -6,34 +6,36 @@ use Prim.Native.Nat.{ℕ, zero, suc, _-_, _≤_, _<_}
 use native.Mathlib.Omega.{arith}
 use native.Mathlib.Decide.{ℕ-discrete, decLt}
 use lib.Dec.{eqb}
-use lib.ListN.{length, getD}
+use lib.ListN.{length}
 use borrow.Author.Tests.{eq-eqb, ne-eqb}
-use Rattle.tables.specs.Tables.{from}
+use Rattle.tables.specs.Tables.{mostVertices, from}
+use Rattle.index.specs.Entries.{headAt, backAt}
 use Rattle.edges.specs.Chains.{leaves, Chains, On, on-0, on-more, falls, gap-0, gap-more}
 
 -- the link that follows link q: 0 follows 0
-abbrev pub onward : List ℕ → ℕ → ℕ
-onward back q = cond (eqb q 0) 0 (getD back (q - 1) 0)
+abbrev pub onward : List (List ℕ) → ℕ → ℕ
+onward edges q = cond (eqb q 0) 0 (backAt edges (q - 1))
 
 -- link k of the chain of v, from 0
-unfoldable pub linkAt : List ℕ → List ℕ → ℕ → ℕ → ℕ
-linkAt last back v zero = getD last v 0
-linkAt last back v (suc k) = onward back (linkAt last back v k)
+unfoldable pub linkAt : List (List ℕ) → List ℕ → ℕ → ℕ → ℕ
+linkAt edges heads v zero = headAt heads v
+linkAt edges heads v (suc k) = onward edges (linkAt edges heads v k)
 
-past-end : (back : List ℕ) (q : ℕ) → q ≡ 0 → onward back q ≡ 0
-past-end back q e = rw (eq-eqb q 0 e)
+past-end : (edges : List (List ℕ)) (q : ℕ) → q ≡ 0 → onward edges q ≡ 0
+past-end edges q e = rw (eq-eqb q 0 e)
 
-module _ {corners last back : List ℕ} (C : Chains corners last back (length corners)) {v : ℕ} (l : v < 1024) where
+module _ {corners : List ℕ} {edges : List (List ℕ)} {heads : List ℕ} (C : Chains corners edges heads (length corners)) {v : ℕ}
+    (l : v < mostVertices) where
   L : ℕ → ℕ
-  L k = linkAt last back v k
+  L k = linkAt edges heads v k
 
-  next : (k : ℕ) → 0 < L k → L (suc k) ≡ getD back (L k - 1) 0
+  next : (k : ℕ) → 0 < L k → L (suc k) ≡ backAt edges (L k - 1)
   unfolding L linkAt
   next k h = rw (ne-eqb (L k) 0 (λ z. omega arith))
 
   before : (k : ℕ) → 0 < L (suc k) → 0 < L k
   unfolding L linkAt
-  before k h = elim (ℕ-discrete (L k) 0) [ yes z ↦ absurd (omega (arith, past-end back (L k) z)) | no d ↦ omega arith ]
+  before k h = elim (ℕ-discrete (L k) 0) [ yes z ↦ absurd (omega (arith, past-end edges (L k) z)) | no d ↦ omega arith ]
 
   on : (k : ℕ) → 0 < L k → On corners v (L k)
   unfolding L linkAt
@@ -64,21 +66,21 @@ module _ {corners last back : List ℕ} (C : Chains corners last back (length co
 
   -- ---- the chain of v: only places that leave v, each of them, and none twice
 
-  pub only-leaving : (k : ℕ) {p : ℕ} → linkAt last back v k ≡ suc p → (p < length corners) × (from corners p ≡ v)
+  pub only-leaving : (k : ℕ) {p : ℕ} → linkAt edges heads v k ≡ suc p → (p < length corners) × (from corners p ≡ v)
   unfolding L
   only-leaving k {p} e =
       let o = on k (omega arith) in
-      let z : linkAt last back v k - 1 ≡ p = omega arith in
+      let z : linkAt edges heads v k - 1 ≡ p = omega arith in
       (omega (arith, o .upto), rw z at (o .leads (omega arith)))
 
-  pub each-leaving : {p : ℕ} → p < length corners → from corners p ≡ v → (k : ℕ) × (linkAt last back v k ≡ suc p)
+  pub each-leaving : {p : ℕ} → p < length corners → from corners p ≡ v → (k : ℕ) × (linkAt edges heads v k ≡ suc p)
   unfolding L linkAt
   each-leaving {p} b e = elim (decLt p (L 0)) [
     | yes m ↦ meet p 0 (length corners) (eq-eqb _ _ e) m (on-0 C l .upto)
     | no m ↦ absurd (true≢false (sym (eq-eqb _ _ e) ∙ gap-0 C l p (omega arith) b))
   ]
 
-  pub none-twice : (j k : ℕ) {p : ℕ} → linkAt last back v j ≡ suc p → linkAt last back v k ≡ suc p → j ≡ k
+  pub none-twice : (j k : ℕ) {p : ℕ} → linkAt edges heads v j ≡ suc p → linkAt edges heads v k ≡ suc p → j ≡ k
   unfolding L
   none-twice j k x y = elim (decLt j k) [
     | yes b ↦ absurd (omega (arith, later j k b (omega arith)))

@@ -2,14 +2,12 @@
 ghost use mathlib.Core.Path.{_≡_};
 ghost use Prim.Native.Nat.{_+_, _-_, _<_};
 ghost use lib.ListN.{length};
-ghost use Rattle.whole.specs.Filled.{Blank, Filled};
-ghost use Rattle.tables.specs.Tables.{mostVertices, nextIn, to};
-ghost use Rattle.tables.specs.Size.{Laid};
-ghost use Rattle.tables.specs.Places.{Named, In};
-ghost use Rattle.edges.specs.Homes.{Homes, homeOn};
-ghost use Rattle.edges.specs.Chains.{Chains};
-ghost use Rattle.edges.specs.Index.{Leaving, Index};
-ghost use Rattle.edges.specs.Edge.{lastEdge, acrossOf};
+ghost use Rattle.tables.specs.Tables.{mostVertices, nextIn};
+ghost use Rattle.tables.specs.Places.{In};
+ghost use Rattle.index.specs.Entries.{Fresh};
+ghost use Rattle.edges.specs.Homes.{homeOn};
+ghost use Rattle.edges.specs.Edge.{lastEdge};
+ghost use Rattle.edges.specs.Index.{Rows, Indexable, Indexed, Leaving};
 
 // The facet of place p, where f is that of the place before, or the first.
 fn home_on(begins: &[u16], f: usize, p: usize) -> usize
@@ -20,20 +18,6 @@ fn home_on(begins: &[u16], f: usize, p: usize) -> usize
         return f + 1;
     }
     f
-}
-
-// The facet of each place of the run, in a table that is lent blank, as all of the index are: one that is returned is copied.
-fn homes(corners: &[u16], begins: &[u16], home: &mut [u16; 6144])
-    requires { ⌜ Laid (now corners) (now begins) × Blank 6144 (now home) ⌝ }
-    ensures { λ _. ⌜ Homes (now (corners .entry)) (now (begins .entry)) (now (home .exit)) ⌝ }
-{
-    let mut f = 0;
-    let mut p = 0;
-    while p < corners.len() {
-        f = home_on(begins, f, p);
-        home[p] = f as u16;
-        p += 1;
-    }
 }
 
 // The next place after p in facet f.
@@ -49,71 +33,44 @@ pub fn next_in(begins: &[u16], f: usize, p: usize) -> usize
     p + 1
 }
 
-// The vertex at which the edge of each place ends.
-fn fill_ends(corners: &[u16], begins: &[u16], home: &[u16; 6144], ends: &mut [u16; 6144])
-    requires { ⌜ Homes (now corners) (now begins) (now home) × Blank 6144 (now ends) ⌝ }
-    ensures { λ _. ⌜ Filled 6144 (now (ends .exit)) (to (now (corners .entry)) (now (begins .entry))) (length (now (corners .entry))) ⌝ }
+// Lists the places: the row of each but for the place across, and the chains of those that leave each vertex.
+fn list(corners: &[u16], begins: &[u16], edges: &mut index::Edges, heads: &mut index::Heads)
+    requires { ⌜ Indexable (now corners) (now begins) ⌝ }
+    requires { ⌜ Fresh (now edges) (now heads) ⌝ }
+    ensures { λ _. ⌜ Rows (now (corners .entry)) (now (begins .entry)) (length (now (corners .entry))) 0 (now (edges .exit)) (now (heads .exit)) ⌝ }
 {
+    let mut f = 0;
     let mut p = 0;
     while p < corners.len() {
-        let q = next_in(begins, tables::wide(home[p]), p);
-        ends[p] = corners[q];
-        p += 1;
-    }
-}
-
-// The chains of the places that leave each vertex: their heads, and the links.
-fn chains(corners: &[u16], last: &mut [u16; 1024], back: &mut [u16; 6144])
-    requires { ⌜ Named mostVertices (now corners) × Blank 1024 (now last) × Blank 6144 (now back) ⌝ }
-    ensures { λ _. ⌜ Chains (now (corners .entry)) (now (last .exit)) (now (back .exit)) (length (now (corners .entry))) ⌝ }
-{
-    let mut p = 0;
-    while p < corners.len() {
+        f = home_on(begins, f, p);
+        let end = corners[next_in(begins, f, p)];
         let v = tables::wide(corners[p]);
-        back[p] = last[v];
-        last[v] = (p + 1) as u16;
+        edges[p] = [f as u16, end, 0, heads[v]];
+        heads[v] = (p + 1) as u16;
         p += 1;
     }
-}
-
-// Builds the index of the edges: for each place its facet and where its edge ends, and the chains of the places that leave each vertex.
-pub fn build(
-    corners: &[u16],
-    begins: &[u16],
-    home: &mut [u16; 6144],
-    ends: &mut [u16; 6144],
-    last: &mut [u16; 1024],
-    back: &mut [u16; 6144],
-)
-    requires { ⌜ Laid (now corners) (now begins) × Named mostVertices (now corners) ⌝ }
-    requires { ⌜ Blank 6144 (now home) × Blank 6144 (now ends) × Blank 1024 (now last) × Blank 6144 (now back) ⌝ }
-    ensures { λ _. ⌜ Index (now (corners .entry)) (now (begins .entry)) (now (home .exit)) (now (ends .exit)) (now (last .exit)) (now (back .exit)) ⌝ }
-{
-    homes(corners, begins, home);
-    fill_ends(corners, begins, home, ends);
-    chains(corners, last, back);
 }
 
 // One more than the last place of the directed edge from a to b, or 0: along the chain of a.
 fn last_edge(
     corners: &[u16],
     begins: &[u16],
-    ends: &[u16; 6144],
-    last: &[u16; 1024],
-    back: &[u16; 6144],
+    edges: &index::Edges,
+    heads: &index::Heads,
     a: u16,
     b: u16,
 ) -> usize
-    requires { ⌜ Leaving (now corners) (now begins) (now ends) (now last) (now back) × (a < 1024) ⌝ }
+    requires { ⌜ Leaving (now corners) (now begins) (now edges) (now heads) ⌝ }
+    requires { ⌜ a < mostVertices ⌝ }
     ensures { λ r. ⌜ r ≡ lastEdge (now (corners .entry)) (now (begins .entry)) a b ⌝ }
 {
-    let mut q = tables::wide(last[tables::wide(a)]);
+    let mut q = index::head_at(heads, tables::wide(a));
     while 0 < q {
         let p = q - 1;
-        if ends[p] == b {
+        if index::end_at(edges, p) == b {
             return q;
         }
-        q = tables::wide(back[p]);
+        q = index::back_at(edges, p);
     }
     0
 }
@@ -128,22 +85,27 @@ fn place_of(link: usize) -> usize
     link - 1
 }
 
-// For each place the last one of the reverse of its edge.
-pub fn across(
-    corners: &[u16],
-    begins: &[u16],
-    ends: &[u16; 6144],
-    last: &[u16; 1024],
-    back: &[u16; 6144],
-    across: &mut [u16; 6144],
-)
-    requires { ⌜ Leaving (now corners) (now begins) (now ends) (now last) (now back) × Blank 6144 (now across) ⌝ }
-    ensures { λ _. ⌜ Filled 6144 (now (across .exit)) (acrossOf (now (corners .entry)) (now (begins .entry))) (length (now (corners .entry))) ⌝ }
+// Finds for each place the one across: the last of the reverse of its edge.
+fn cross(corners: &[u16], begins: &[u16], edges: &mut index::Edges, heads: &index::Heads)
+    requires { ⌜ Indexable (now corners) (now begins) ⌝ }
+    requires { ⌜ Rows (now corners) (now begins) (length (now corners)) 0 (now edges) (now heads) ⌝ }
+    ensures { λ _. ⌜ Indexed (now (corners .entry)) (now (begins .entry)) (now (edges .exit)) (now (heads .entry)) ⌝ }
 {
     let mut p = 0;
     while p < corners.len() {
-        let q = last_edge(corners, begins, ends, last, back, ends[p], corners[p]);
-        across[p] = place_of(q) as u16;
+        let end = index::end_at(edges, p);
+        let q = last_edge(corners, begins, edges, heads, end, corners[p]);
+        edges[p][index::ACROSS] = place_of(q) as u16;
         p += 1;
     }
+}
+
+// Builds the index of the edges in two tables that are lent blank: one that is returned would be copied.
+pub fn build(corners: &[u16], begins: &[u16], edges: &mut index::Edges, heads: &mut index::Heads)
+    requires { ⌜ Indexable (now corners) (now begins) ⌝ }
+    requires { ⌜ Fresh (now edges) (now heads) ⌝ }
+    ensures { λ _. ⌜ Indexed (now (corners .entry)) (now (begins .entry)) (now (edges .exit)) (now (heads .exit)) ⌝ }
+{
+    list(corners, begins, edges, heads);
+    cross(corners, begins, edges, heads);
 }

@@ -5,16 +5,17 @@ use mathlib.Core.List.{List}
 use Prim.Native.Nat.{ℕ, _-_, _≤_, _<_}
 use native.Mathlib.Omega.{arith}
 use lib.Dec.{eqb, ltb}
-use lib.ListN.{length, getD}
+use lib.ListN.{length}
 use borrow.Author.Tests.{eqb-true, eq-eqb, ltb-false, le-ltb, not-false}
 use Rattle.whole.specs.Count.{lastBelow, count-but, last, once, some-last, both, neither}
-use Rattle.whole.specs.Filled.{Filled, filled-one}
 use Rattle.whole.specs.Orbit.{cover}
-use Rattle.tables.specs.Tables.{homeOf, nextOf, from, to}
+use Rattle.tables.specs.Tables.{mostCorners, homeOf, nextOf, from, to}
 use Rattle.tables.specs.Size.{Laid}
 use Rattle.tables.specs.Places.{Single, next-below, next-home, next-next-not}
 use Rattle.tables.specs.declared.Found.the-variants.{Nothing}
-use Rattle.edges.specs.Edge.{isEdge, lastEdge, acrossOf}
+use Rattle.index.specs.Entries.{homeAt, acrossAt}
+use Rattle.edges.specs.Edge.{isEdge, lastEdge, acrossOf, facetAcross}
+use Rattle.edges.specs.Index.{Indexed, home-is, across-at-is, across-at-below, small}
 use Rattle.pair.specs.Pair.{times, unpaired, pair, Paired, pair-none, paired-none}
 
 -- q is a place of the reverse of the edge at p
@@ -121,14 +122,19 @@ pair-means L e = matched (pair-none L e)
 pub means-pair : {corners begins : List ℕ} → Laid corners begins → Matched corners begins → pair corners begins ≡ Nothing
 means-pair L M = paired-none L (paired-if M)
 
--- ---- what the code's table holds
+-- ---- what the index holds where PAIR applies nowhere
 
-pub record Across (corners begins across : List ℕ) : Type 0 where
+pub record Crossed (corners begins : List ℕ) (edges : List (List ℕ)) (heads : List ℕ) : Type 0 where
+  pub indexed : Indexed corners begins edges heads
   pub paired : Paired corners begins
-  pub filled : Filled 6144 across (acrossOf corners begins) (length corners)
 
-pub one-across : {corners begins across across′ : List ℕ} → Across corners begins across → Across corners begins across′ → across ≡ across′
-one-across A B = filled-one (A .filled) (B .filled)
+module _ {corners begins : List ℕ} {edges : List (List ℕ)} {heads : List ℕ} (C : Crossed corners begins edges heads) {p : ℕ} (l : p < length corners) where
+  pub across-entry : Reverse corners begins p (acrossAt edges p)
+  across-entry = rw (across-at-is (C .indexed) l) (across (C .paired) l)
 
-pub across-entry : {corners begins table : List ℕ} {p : ℕ} → Across corners begins table → p < length corners → Reverse corners begins p (getD table p 0)
-across-entry {p} A l = rw (A .filled .at p l) (across (A .paired) l)
+  pub across-small : acrossAt edges p < mostCorners
+  across-small = small (C .indexed) (across-at-below (C .indexed) l)
+
+  -- the facet across
+  pub facet-across : homeAt edges (acrossAt edges p) ≡ facetAcross corners begins p
+  facet-across = home-is (C .indexed) (across-at-below (C .indexed) l) ∙ ap (homeOf begins) (across-at-is (C .indexed) l)

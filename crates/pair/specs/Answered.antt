@@ -4,15 +4,16 @@ use mathlib.Core.Bool.{Bool, false, not, _||_}
 use mathlib.Core.List.{List}
 use Prim.Native.Nat.{ℕ, _<_}
 use lib.Dec.{eqb}
-use lib.ListN.{length, getD}
+use lib.ListN.{length}
 use borrow.Author.Tests.{eqb-true, not-false}
 use Rattle.whole.specs.First.{anyBelow, any-false}
 use Rattle.whole.specs.Count.{neither}
-use Rattle.whole.specs.Filled.{Filled}
 use Rattle.tables.specs.Tables.{from, to}
 use Rattle.tables.specs.Size.{Laid}
 use Rattle.tables.specs.declared.Found.the-variants.{Nothing}
+use Rattle.index.specs.Entries.{endAt, acrossAt}
 use Rattle.edges.specs.Edge.{acrossOf, across-below}
+use Rattle.edges.specs.Index.{Indexed, end-is, across-at-is, across-at-below}
 use Rattle.pair.specs.Pair.{pair}
 use Rattle.pair.specs.Across.{Reverse, Matched, means-pair}
 
@@ -24,22 +25,14 @@ unlike corners begins p q =
 abbrev pub unanswered : List ℕ → List ℕ → ℕ → Bool
 unanswered corners begins p = unlike corners begins p (acrossOf corners begins p)
 
--- the tables that the test reads
-pub record Answers (corners begins ends across : List ℕ) : Type 0 where
-  pub laid : Laid corners begins
-  pub ended : Filled 6144 ends (to corners begins) (length corners)
-  pub crossed : Filled 6144 across (acrossOf corners begins) (length corners)
-
 -- what the code reads
-module _ {corners begins ends across : List ℕ} (A : Answers corners begins ends across) {p : ℕ} (l : p < length corners) where
-  pub entry-below : getD across p 0 < length corners
-  entry-below = rw (A .crossed .at p l) (across-below corners begins l)
-
-  pub unlike-entry : (q : ℕ) → q ≡ getD across p 0
-      → unanswered corners begins p ≡ (not (eqb (getD across q 0) p) || (not (eqb (getD corners q 0) (getD ends p 0)) || not (eqb (getD ends q 0) (getD corners p 0))))
-  unlike-entry q e =
-      let b : q < length corners = rw e entry-below in
-      rw (A .crossed .at q b, A .ended .at q b, A .ended .at p l, e ∙ A .crossed .at p l)
+pub unlike-entry : {corners begins : List ℕ} {edges : List (List ℕ)} {heads : List ℕ} {p q : ℕ} → Indexed corners begins edges heads → p < length corners
+    → q ≡ acrossAt edges p
+    → unanswered corners begins p
+    ≡ (not (eqb (acrossAt edges q) p) || (not (eqb (from corners q) (endAt edges p)) || not (eqb (endAt edges q) (from corners p))))
+unlike-entry {q = q} I l e =
+    let b : q < length corners = rw e (across-at-below I l) in
+    rw (across-at-is I b, end-is I b, end-is I l, e ∙ across-at-is I l)
 
 -- the place across depends on the edge alone
 same-across : (corners begins : List ℕ) (p q : ℕ) → from corners p ≡ from corners q → to corners begins p ≡ to corners begins q → acrossOf corners begins p ≡ acrossOf corners begins q

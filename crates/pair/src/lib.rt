@@ -1,15 +1,14 @@
 // Number 6, PAIR, over the index of the edges.
 ghost use mathlib.Core.Path.{_≡_};
-ghost use Prim.Native.Nat.{_-_, _<_};
+ghost use Prim.Native.Nat.{_<_};
 ghost use lib.Dec.{eqb};
 ghost use lib.ListN.{length};
 ghost use Rattle.whole.specs.First.{anyBelow};
 ghost use Rattle.whole.specs.Count.{bit};
-ghost use Rattle.whole.specs.Filled.{Filled};
-ghost use Rattle.edges.specs.Index.{Leaving, Index};
+ghost use Rattle.tables.specs.Tables.{mostVertices};
+ghost use Rattle.edges.specs.Index.{Leaving, Indexed};
 ghost use Rattle.pair.specs.Pair.{times, unpaired, pair};
-ghost use Rattle.edges.specs.Edge.{acrossOf};
-ghost use Rattle.pair.specs.Answered.{Answers, unanswered};
+ghost use Rattle.pair.specs.Answered.{unanswered};
 
 // 1 where the two are the same, else 0.
 fn same(x: u16, y: u16) -> usize
@@ -25,21 +24,21 @@ fn same(x: u16, y: u16) -> usize
 fn times(
     corners: &[u16],
     begins: &[u16],
-    ends: &[u16; 6144],
-    last: &[u16; 1024],
-    back: &[u16; 6144],
+    edges: &index::Edges,
+    heads: &index::Heads,
     a: u16,
     b: u16,
 ) -> usize
-    requires { ⌜ Leaving (now corners) (now begins) (now ends) (now last) (now back) × (a < 1024) ⌝ }
+    requires { ⌜ Leaving (now corners) (now begins) (now edges) (now heads) ⌝ }
+    requires { ⌜ a < mostVertices ⌝ }
     ensures { λ r. ⌜ r ≡ times (now (corners .entry)) (now (begins .entry)) a b ⌝ }
 {
     let mut n = 0;
-    let mut q = tables::wide(last[tables::wide(a)]);
+    let mut q = index::head_at(heads, tables::wide(a));
     while 0 < q {
         let p = q - 1;
-        n += same(ends[p], b);
-        q = tables::wide(back[p]);
+        n += same(index::end_at(edges, p), b);
+        q = index::back_at(edges, p);
     }
     n
 }
@@ -48,56 +47,57 @@ fn times(
 fn unpaired(
     corners: &[u16],
     begins: &[u16],
-    ends: &[u16; 6144],
-    last: &[u16; 1024],
-    back: &[u16; 6144],
+    edges: &index::Edges,
+    heads: &index::Heads,
     p: usize,
 ) -> bool
-    requires { ⌜ Leaving (now corners) (now begins) (now ends) (now last) (now back) × (p < length (now corners)) ⌝ }
+    requires { ⌜ Indexed (now corners) (now begins) (now edges) (now heads) ⌝ }
+    requires { ⌜ p < length (now corners) ⌝ }
     ensures { λ r. ⌜ r ≡ unpaired (now (corners .entry)) (now (begins .entry)) p ⌝ }
 {
     let a = corners[p];
-    let b = ends[p];
-    if 1 < times(corners, begins, ends, last, back, a, b) {
+    let b = index::end_at(edges, p);
+    if 1 < times(corners, begins, edges, heads, a, b) {
         return true;
     }
-    times(corners, begins, ends, last, back, b, a) != 1
+    times(corners, begins, edges, heads, b, a) != 1
 }
 
 // Whether the place across from p isn't one of the reverse of its edge, or has another place across from it.
 fn is_unanswered(
     corners: &[u16],
     begins: &[u16],
-    ends: &[u16; 6144],
-    across: &[u16; 6144],
+    edges: &index::Edges,
+    heads: &index::Heads,
     p: usize,
 ) -> bool
-    requires { ⌜ Answers (now corners) (now begins) (now ends) (now across) × (p < length (now corners)) ⌝ }
+    requires { ⌜ Indexed (now corners) (now begins) (now edges) (now heads) ⌝ }
+    requires { ⌜ p < length (now corners) ⌝ }
     ensures { λ r. ⌜ r ≡ unanswered (now (corners .entry)) (now (begins .entry)) p ⌝ }
 {
-    let q = tables::wide(across[p]);
-    if tables::wide(across[q]) != p {
+    let q = index::across_at(edges, p);
+    if index::across_at(edges, q) != p {
         return true;
     }
-    if corners[q] != ends[p] {
+    if corners[q] != index::end_at(edges, p) {
         return true;
     }
-    ends[q] != corners[p]
+    index::end_at(edges, q) != corners[p]
 }
 
 // Whether some place is unanswered.
 fn some_unanswered(
     corners: &[u16],
     begins: &[u16],
-    ends: &[u16; 6144],
-    across: &[u16; 6144],
+    edges: &index::Edges,
+    heads: &index::Heads,
 ) -> bool
-    requires { ⌜ Answers (now corners) (now begins) (now ends) (now across) ⌝ }
+    requires { ⌜ Indexed (now corners) (now begins) (now edges) (now heads) ⌝ }
     ensures { λ r. ⌜ r ≡ anyBelow (unanswered (now (corners .entry)) (now (begins .entry))) (length (now (corners .entry))) ⌝ }
 {
     let mut p = 0;
     while p < corners.len() {
-        if is_unanswered(corners, begins, ends, across, p) {
+        if is_unanswered(corners, begins, edges, heads, p) {
             return true;
         }
         p += 1;
@@ -109,18 +109,16 @@ fn some_unanswered(
 fn first_unpaired(
     corners: &[u16],
     begins: &[u16],
-    home: &[u16; 6144],
-    ends: &[u16; 6144],
-    last: &[u16; 1024],
-    back: &[u16; 6144],
+    edges: &index::Edges,
+    heads: &index::Heads,
 ) -> tables::Found
-    requires { ⌜ Index (now corners) (now begins) (now home) (now ends) (now last) (now back) ⌝ }
+    requires { ⌜ Indexed (now corners) (now begins) (now edges) (now heads) ⌝ }
     ensures { λ r. ⌜ r ≡ pair (now (corners .entry)) (now (begins .entry)) ⌝ }
 {
     let mut p = 0;
     while p < corners.len() {
-        if unpaired(corners, begins, ends, last, back, p) {
-            let f = tables::wide(home[p]);
+        if unpaired(corners, begins, edges, heads, p) {
+            let f = index::home_at(edges, p);
             return tables::Found::At(f, p - tables::wide(begins[f]));
         }
         p += 1;
@@ -132,18 +130,14 @@ fn first_unpaired(
 pub fn pair(
     corners: &[u16],
     begins: &[u16],
-    home: &[u16; 6144],
-    ends: &[u16; 6144],
-    last: &[u16; 1024],
-    back: &[u16; 6144],
-    across: &[u16; 6144],
+    edges: &index::Edges,
+    heads: &index::Heads,
 ) -> tables::Found
-    requires { ⌜ Index (now corners) (now begins) (now home) (now ends) (now last) (now back) ⌝ }
-    requires { ⌜ Filled 6144 (now across) (acrossOf (now corners) (now begins)) (length (now corners)) ⌝ }
+    requires { ⌜ Indexed (now corners) (now begins) (now edges) (now heads) ⌝ }
     ensures { λ r. ⌜ r ≡ pair (now (corners .entry)) (now (begins .entry)) ⌝ }
 {
-    if some_unanswered(corners, begins, ends, across) {
-        return first_unpaired(corners, begins, home, ends, last, back);
+    if some_unanswered(corners, begins, edges, heads) {
+        return first_unpaired(corners, begins, edges, heads);
     }
     tables::Found::Nothing
 }
