@@ -2,6 +2,7 @@
 ghost use mathlib.Core.Path.{_≡_};
 ghost use Prim.Native.Nat.{_≤_};
 ghost use lib.ListN.{length};
+ghost use Rattle.answers.specs.declared.Fault.the-variants.{None};
 ghost use Rattle.answers.specs.Answer.{accepted, fault, refused, passed, ofLength, atOffset, answerOf};
 
 // The first rule that tables break, by its number, and its first place; or none.
@@ -73,7 +74,7 @@ impl Answer {
 
     // The judge's record of the tables' first fault, or of none, from the tables.
     pub fn of(points: &[i32], corners: &[u16], begins: &[u16], first: Fault) -> Self
-        requires { ⌜ 1 ≤ length (now begins) ⌝ }
+        requires { ⌜ (first ≡ None → 1 ≤ length (now begins)) ⌝ }
         ensures { λ r. ⌜ r ≡ answerOf (now (points .entry)) (now (corners .entry)) (now (begins .entry)) first ⌝ }
     {
         match first {

@@ -67,14 +67,13 @@ pub fn write_tape(
     ensures { λ r. ⌜ r ≡ written (now (points .entry)) (now (corners .entry)) (now (begins .entry)) (now (buffer .entry)) ⌝ }
     ensures { λ _. ⌜ now (buffer .exit) ≡ bufferAfter (now (points .entry)) (now (corners .entry)) (now (begins .entry)) (now (buffer .entry)) ⌝ }
 {
-    let answer = limits::check(points, corners, begins);
-    if answer.number != 0 {
-        return answer;
+    if let answers::Fault::Breaks(number, first, second) = limits::check(points, corners, begins) {
+        return answers::Answer::fault(number, first, second);
     }
     let long = 7 * (points.len() / 3) + (begins.len() - 1) + 2 * corners.len() + 5;
     if buffer.len() < long {
-        return answers::Answer::refused(23, 0, 0);
+        return answers::Answer::refused(23);
     }
     put_tape(points, corners, begins, buffer);
-    answers::Answer::accepted(long, 0, 0)
+    answers::Answer::of_length(long)
 }

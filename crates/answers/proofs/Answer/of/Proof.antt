@@ -10,7 +10,7 @@ of-spec =
     (λ c. search needs)
     (λ c κs. search needs)
     (λ c. search needs)
-    (λ c. search needs)
+    (λ c. c .before .before .before .before .pre (c .enum-told .given .1))
     (λ c κs. search needs)
     (λ c. rw (c .before .before .first .given .1) (c .fault .ensures))
     (λ c. rw (c .before .enum-told .given .1) (c .accepted .ensures)))
