@@ -16,7 +16,7 @@ use Rattle.tape.specs.Records.{packed}
 use Rattle.tape.specs.Tape.{tape}
 use Rattle.tape.specs.Reading.{lookAt, run, readTape, pointsAt, place, cornersAt, beginsAt}
 use Rattle.tape.specs.declared.Next.the-variants.{Bad}
-use Rattle.tape.specs.declared.Outcome.the-variants.{Read, Refused}
+use Rattle.reading.specs.declared.Reading.the-variants.{Read, Refused}
 use Rattle.reader.specs.Answer.{outcome}
 use Rattle.writer.specs.Answer.{written, bufferAfter}
 

@@ -26,8 +26,8 @@ use Rattle.tape.specs.Records.{divided, length-facet}
 use Rattle.tape.specs.Tape.{tape}
 use Rattle.tape.specs.Reading.{readTape, pointsAt, cornersAt, beginsAt, length-points-at}
 use Rattle.tape.specs.Whole.{read-whole, whole-read, refused-number}
-use Rattle.tape.specs.declared.Outcome.{Outcome}
-use Rattle.tape.specs.declared.Outcome.the-variants.{Read, Refused}
+use Rattle.reading.specs.declared.Reading.{Reading}
+use Rattle.reading.specs.declared.Reading.the-variants.{Read, Refused}
 use Rattle.reader.specs.Answer.{answerOf, noRoom, outcome, reading, pointsAfter, cornersAfter, beginsAfter}
 use Rattle.reader.specs.Room.{with-room}
 use Rattle.writer.specs.Answer.{spaced, written, bufferAfter}
@@ -71,7 +71,7 @@ module _ (tape : List ℕ) (points : List ℤ) (corners begins : List ℕ) where
   accepts : reading tape points corners begins .number ≡ 0 → Accepts
   accepts n = go (noRoom (length points) (length corners) (length begins)) refl (readTape tape) refl
     where
-      go : (t : Bool) → noRoom (length points) (length corners) (length begins) ≡ t → (o : Outcome) → readTape tape ≡ o → Accepts
+      go : (t : Bool) → noRoom (length points) (length corners) (length begins) ≡ t → (o : Reading) → readTape tape ≡ o → Accepts
       go true e o q = let z : _≡_ {A = ℕ} 16 0 = rw e at n in absurd (omega arith)
       go false e (Read v f c) q = record { v = v; f = f; c = c; is = with-room tape points corners begins e ∙ q; read = q }
       go false e (Refused number offset) q = let z : number ≡ 0 = rw (e, q) at n in absurd (omega (arith, refused-number tape q))
@@ -92,9 +92,9 @@ module _ (tape : List ℕ) (points : List ℤ) (corners begins : List ℕ) where
       → (pointsAfter tape points corners begins ≡ points) × (cornersAfter tape points corners begins ≡ corners) × (beginsAfter tape points corners begins ≡ begins)
   refused-unchanged n = go (outcome tape points corners begins) refl
     where
-      go : (o : Outcome) → outcome tape points corners begins ≡ o
+      go : (o : Reading) → outcome tape points corners begins ≡ o
           → (pointsAfter tape points corners begins ≡ points) × (cornersAfter tape points corners begins ≡ corners) × (beginsAfter tape points corners begins ≡ begins)
-      go (Read v f c) e = absurd (n (ap (λ (o : Outcome). answerOf o .number) e))
+      go (Read v f c) e = absurd (n (ap (λ (o : Reading). answerOf o .number) e))
       go (Refused number offset) e = rw e (refl, refl, refl)
 
 pub refused-unwritten : (points : List ℤ) (corners begins buffer : List ℕ) → (written points corners begins buffer .number ≡ 0 → ⊥)
