@@ -2,17 +2,17 @@
 use mathlib.Core.Path.{_≡_, refl}
 use mathlib.Core.Bool.{true, false}
 use mathlib.Core.List.{List}
-use Prim.Native.Nat.{ℕ, _+_, _*_, _≤_, _<_}
+use Prim.Native.Nat.{ℕ, _+_, _*_, _≤_}
 use native.Mathlib.Omega.{arith}
 use lib.IntN.{ℤ}
 use lib.ListN.{length}
 use Rattle.whole.specs.Over.{over}
-use Rattle.tables.specs.Tables.{mostCorners}
 use Rattle.reading.specs.Room.{noRoom, Roomy}
 use Rattle.reading.specs.declared.Reading.{Reading}
 use Rattle.reading.specs.declared.Reading.the-variants.{Read, Refused}
 use Rattle.tape.specs.Reading.{readTape, pointsAt, cornersAt, beginsAt}
-use Rattle.tape.specs.Whole.{Whole, Facets, place-0, place-rises}
+use Rattle.tape.specs.Whole.{Whole, place-0, place-rises}
+use Rattle.facets_in.specs.Filling.{Fillable}
 use Rattle.reader.specs.Answer.{reading, pointsAfter, cornersAfter, beginsAfter}
 
 -- what the filling pass needs
@@ -23,8 +23,12 @@ module _ {tape : List ℕ} {v f c : ℕ} (w : Whole tape v f c) {points : List �
   pub for-points : (0 + 7 * v ≤ length tape) × (v * 3 ≤ length points)
   for-points = (omega (arith, points-inside), omega (arith, w .records .few, r .point-room))
 
-  pub for-facets : Facets tape (7 * v) f × (mostCorners ≤ length corners) × (f < length begins)
-  for-facets = (w .records .facets, r .corner-room, omega (arith, w .records .facets .few, r .begin-room))
+  pub for-facets : Fillable tape (7 * v) f corners begins
+  for-facets = record {
+    facets = w .records .facets;
+    run-room = r .corner-room;
+    begin-room = omega (arith, w .records .facets .few, r .begin-room);
+  }
 
 module _ (tape : List ℕ) (points : List ℤ) (corners begins : List ℕ) where
   pub no-room : noRoom (length points) (length corners) (length begins) ≡ true → reading tape points corners begins ≡ Refused 16 0

@@ -1,4 +1,4 @@
--- `reader::store` meets its contract. Assumes nothing.
+-- `facets_in::store` meets its contract. Assumes nothing.
 use borrow.Author.Needs.{needs}
 use mathlib.Core.Path.{_≡_, refl}
 use mathlib.Core.List.{[], _∷_}
@@ -8,8 +8,8 @@ use native.Mathlib.Numerals.{add-one}
 use lib.ListN.{length, take, getD, length-set}
 use lib.Seq.{sets, take-suc, length-take-le}
 use Rattle.whole.specs.Stores.{sets-append}
-use Rattle.reader.proofs.store.Statement.{statement}
-use Rattle.reader.proofs.store.Tie as tie
+use Rattle.facets_in.proofs.store.Statement.{statement}
+use Rattle.facets_in.proofs.store.Tie as tie
 
 abbrev Inv-loop : tie.InvT-loop
 Inv-loop corners₀ c tray n k₀ corners k = (k ≤ n) × (length corners ≡ length corners₀) × (corners ≡ sets corners₀ c (take k tray))

@@ -1,5 +1,4 @@
--- `reader::keep_point` meets its contract. Assumes nothing.
-use borrow.Author.Needs.{needs}
+-- `points_in::keep_point` meets its contract. Assumes nothing.
 use mathlib.Core.Path.{_≡_, _∙_}
 use mathlib.Core.List.{List, [], _∷_}
 use Prim.Native.Nat.{ℕ, suc, _+_}
@@ -9,8 +8,8 @@ use lib.IntN.{ℤ}
 use lib.ListN.{set, length-set}
 use lib.Seq.{sets}
 use Rattle.tape.specs.Little.{read-32}
-use Rattle.reader.proofs.keep_point.Statement.{statement}
-use Rattle.reader.proofs.keep_point.Tie as tie
+use Rattle.points_in.proofs.keep_point.Statement.{statement}
+use Rattle.points_in.proofs.keep_point.Tie as tie
 
 three : (old : List ℤ) (p : ℕ) {a b c x y z : ℤ} → a ≡ x → b ≡ y → c ≡ z → set (set (set old p a) (p + 1) b) (p + 2) c ≡ sets old p (x ∷ y ∷ z ∷ [])
 three old p e f g = let two : p + 2 ≡ suc (suc p) = omega arith in rw (e, f, g, two, add-one)
@@ -29,18 +28,18 @@ pub keep-point-spec : {M : Type 1} → statement M
 keep-point-spec =
     tie.close
     (tie.spec
-    (λ c κs. search needs)
-    (λ c. search needs)
-    (λ c. search needs)
-    (λ c. search needs)
-    (λ c κs. search needs)
-    (λ c. search needs)
-    (λ c. search needs)
-    (λ c. rw length-set (search needs))
-    (λ c. search needs)
-    (λ c κs. search needs)
-    (λ c. search needs)
-    (λ c. search needs)
-    (λ c. simp length-set (search needs))
-    (λ c. search needs)
+    (λ c κs. omega arith)
+    (λ c. omega arith)
+    (λ c. omega arith)
+    (λ c. omega arith)
+    (λ c κs. omega arith)
+    (λ c. omega arith)
+    (λ c. omega arith)
+    (λ c. rw length-set (omega arith))
+    (λ c. omega arith)
+    (λ c κs. omega arith)
+    (λ c. omega arith)
+    (λ c. omega arith)
+    (λ c. simp length-set (omega arith))
+    (λ c. simp length-set)
     returns)
