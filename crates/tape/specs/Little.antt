@@ -42,6 +42,11 @@ signedAt s i = signed (unsignedAt s i)
 pub record Bytes (s : List ℕ) : Type 0 where
   pub small : (i : ℕ) → getD s i 0 < 256
 
+-- what is asked of a signed number that is stored
+pub record PutsSigned (buffer : List ℕ) (i : ℕ) (x : ℤ) : Type 0 where
+  pub room : i + 1 < length buffer
+  pub fits : SFits w16 x
+
 pub length-bytes : (k n : ℕ) → length (bytesOf k n) ≡ k
 unfolding bytesOf
 length-bytes zero n = refl

@@ -8,7 +8,7 @@ use Rattle.tape.proofs.put_signed.Tie as tie
 returns : tie.Need-returns
 returns c =
     let b = c .before .before .before in
-    c .before .before .put-unsigned .ensures ∙ rw (b .bits-of .ensures, read-back (b .before .before .before .pre .1))
+    c .before .before .put-unsigned .ensures ∙ rw (b .bits-of .ensures, read-back (b .before .before .before .pre .fits))
 
 pub put-signed-spec : {M : Type 1} → statement M
 put-signed-spec = tie.close (tie.spec (λ c κs. search needs) (λ c κs. search needs) (λ c. search needs) returns)
