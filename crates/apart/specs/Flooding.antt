@@ -7,10 +7,8 @@ use native.Mathlib.Omega.{arith}
 use lib.ListN.{length}
 use Rattle.whole.specs.Filled.{Blank}
 use Rattle.whole.specs.Rounds.{at, first, arc}
-use Rattle.whole.specs.Flood.{
-  blankRow, entryAt, marked, Queue, Pushing, Push, Pushed, Spread, Flood, Flooded,
-  queue-0, tail-le, pushing, push, spread-0, spread-more, flood-0, flood-more, flood-end,
-}
+use Rattle.whole.specs.Flood.{blankRow, entryAt, marked, Queue, Pushing, Push, Pushed, Spread, Flood, Flooded, queue-0, tail-le, pushing}
+use Rattle.whole.specs.Flood.{push, spread-0, spread-more, flood-0, flood-more, flood-end}
 use Rattle.tables.specs.Tables.{mostFacets, mostCorners, facets, begin, end, homeOf}
 use Rattle.tables.specs.Places.{In, home, home-is, in-facet}
 use Rattle.index.specs.Entries.{homeAt, acrossAt}
@@ -160,8 +158,8 @@ alike true y f g = sym (f refl)
 alike false true f g = g refl
 alike false false f g = refl
 
-pub apart-test : {corners begins : List ℕ} {edges : List (List ℕ)} {heads : List ℕ} {queue : List (List ℕ)} {f : ℕ} → Crossed corners begins edges heads
-    → ReachMarks corners begins queue → f < facets begins → isApart corners begins f ≡ not (marked queue f)
+pub apart-test : {corners begins : List ℕ} {edges : List (List ℕ)} {heads : List ℕ} {queue : List (List ℕ)} {f : ℕ}
+    → Crossed corners begins edges heads → ReachMarks corners begins queue → f < facets begins → isApart corners begins f ≡ not (marked queue f)
 apart-test {corners} {begins} {queue = queue} {f = f} C M l =
     let L = C .indexed .tables .laid in
     let P = C .paired in

@@ -91,8 +91,8 @@ module _ {corners begins : List ℕ} (L : Laid corners begins) (P : Paired corne
           (j, x)
 
   -- and the other way, where each is reached from one
-  pub ring-from : {p : ℕ} → p < length corners → from corners p ≡ v → ((q : ℕ) → q < length corners → from corners q ≡ v → Stepped corners begins p q)
-      → broken corners begins v ≡ false
+  pub ring-from : {p : ℕ} → p < length corners → from corners p ≡ v
+      → ((q : ℕ) → q < length corners → from corners q ≡ v → Stepped corners begins p q) → broken corners begins v ≡ false
   ring-from {p} l s all = any-none back (degree corners v - 1) (λ i b. is-false (back i) (λ e. early i b (eqb-true _ _ e)))
     where
       back : ℕ → Bool

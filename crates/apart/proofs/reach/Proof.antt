@@ -3,9 +3,8 @@ use borrow.Author.Needs.{needs}
 use Prim.Native.Nat.{_-_}
 use native.Mathlib.Omega.{arith}
 use Rattle.tables.specs.Tables.{facets}
-use Rattle.apart.specs.Flooding.{
-  Reaching, reaching-pushing, reaching-0, reaching-small, reaching-less, reaching-visit, reaching-more, reaching-end,
-}
+use Rattle.apart.specs.Flooding.{Reaching, reaching-pushing, reaching-0, reaching-small, reaching-less, reaching-visit}
+use Rattle.apart.specs.Flooding.{reaching-more, reaching-end}
 use Rattle.apart.proofs.reach.Statement.{statement}
 use Rattle.apart.proofs.reach.Tie as tie
 
