@@ -11,7 +11,8 @@ use Rattle.space.specs.Vectors.{_·_, det, swap-≤}
 use Rattle.solid.specs.Left.{Left, upright}
 
 -- the wedge from a to b is crossed at y = (d · b) a - (d · a) b, which is d × n but for a positive factor; here is m · y
-crossing : (n m a b d : Vec ℤ) → n · a ≡ pos 0 → n · b ≡ pos 0 → n · n *ℤ (d · b *ℤ (m · a) -ℤ d · a *ℤ (m · b)) ≡ det n a b *ℤ det n m d
+crossing : (n m a b d : Vec ℤ) → n · a ≡ pos 0 → n · b ≡ pos 0
+    → n · n *ℤ (d · b *ℤ (m · a) -ℤ d · a *ℤ (m · b)) ≡ det n a b *ℤ det n m d
 unfolding det _·_
 crossing = prove³ 5 (λ n m a b d. let o = num (pos 0) in
     dot exprs n a ≃ o ⇒ λ h. dot exprs n b ≃ o ⇒ λ k.

@@ -129,12 +129,14 @@ module _ {size m : ℕ} {R : ℕ → Type 0} {mark queue : List ℕ} {tail : ℕ
   pub pushing : Pushing size mark tail g
   pushing = record { place = omega arith; short = omega (arith, tail-le Q fits); room = λ e. some-room Q fits l e }
 
-  pub push : {mark′ queue′ : List ℕ} {tail′ : ℕ} → R g → mark′ ≡ pushMark mark g → queue′ ≡ pushQueue mark queue tail g → tail′ ≡ pushTail mark tail g
+  pub push : {mark′ queue′ : List ℕ} {tail′ : ℕ} → R g → mark′ ≡ pushMark mark g
+      → queue′ ≡ pushQueue mark queue tail g → tail′ ≡ pushTail mark tail g
       → Pushed size m R mark queue tail mark′ queue′ tail′ g
   unfolding pushMark pushQueue pushTail
   push r x y z = rw (x, y, z) (go (eqb (getD mark g 0) 0) refl)
     where
-      go : (t : Bool) → eqb (getD mark g 0) 0 ≡ t → Pushed size m R mark queue tail (cond t (set mark g 1) mark) (cond t (set queue tail g) queue) (cond t (tail + 1) tail) g
+      go : (t : Bool) → eqb (getD mark g 0) 0 ≡ t
+          → Pushed size m R mark queue tail (cond t (set mark g 1) mark) (cond t (set queue tail g) queue) (cond t (tail + 1) tail) g
       go true e = push-new Q fits l (eqb-true _ _ e) r
       go false e = push-old Q fits (eqb-false _ _ e)
 
@@ -186,8 +188,10 @@ pub flood-0 : {size n m : ℕ} {a b : ℕ → ℕ} {mark queue mark′ queue′ 
     → Pushed size m (Reached n a b) mark queue tail mark′ queue′ tail′ 0 → Flood size n m a b mark′ queue′ 0 tail′
 flood-0 P = record { queued = P .queued; upto = omega arith; start = P .is; done = λ i p l. absurd (omega arith) }
 
-pub flood-more : {size n m : ℕ} {a b : ℕ → ℕ} {lo hi : ℕ} {mark queue mark′ queue′ : List ℕ} {head tail tail′ : ℕ} → Flood size n m a b mark queue head tail → head < tail
-    → ((p : ℕ) → p < n → a p ≡ getD queue head 0 → (lo ≤ p) × (p < hi)) → Spread size m (Reached n a b) b lo hi mark queue tail mark′ queue′ tail′
+pub flood-more : {size n m : ℕ} {a b : ℕ → ℕ} {lo hi : ℕ} {mark queue mark′ queue′ : List ℕ} {head tail tail′ : ℕ}
+    → Flood size n m a b mark queue head tail → head < tail
+    → ((p : ℕ) → p < n → a p ≡ getD queue head 0 → (lo ≤ p) × (p < hi))
+    → Spread size m (Reached n a b) b lo hi mark queue tail mark′ queue′ tail′
     → Flood size n m a b mark′ queue′ (head + 1) tail′
 flood-more {head = head} F l range S = record {
   queued = S .queued;
@@ -204,7 +208,8 @@ pub record Flooded (n m : ℕ) (a b : ℕ → ℕ) (mark : List ℕ) : Type 0 wh
   pub only : (g : ℕ) → g < m → marked mark g ≡ true → Reached n a b g
   pub all : {g : ℕ} → Reached n a b g → marked mark g ≡ true
 
-pub flood-end : {size n m : ℕ} {a b : ℕ → ℕ} {mark queue : List ℕ} {head tail : ℕ} → Flood size n m a b mark queue head tail → tail ≤ head → 0 < m
+pub flood-end : {size n m : ℕ} {a b : ℕ → ℕ} {mark queue : List ℕ} {head tail : ℕ}
+    → Flood size n m a b mark queue head tail → tail ≤ head → 0 < m
     → ((p : ℕ) → p < n → b p < m) → Flooded n m a b mark
 flood-end {n = n} {m = m} {a = a} {b = b} {mark = mark} F l z ends = record {
   only = λ g k e. let (i, h, q) = F .queued .listed g k e in rw q at (F .queued .reach i h);

@@ -1,10 +1,31 @@
 -- `height::height` meets its contract. Assumes nothing.
 use borrow.Author.Needs.{needs}
 use mathlib.Core.Path.{_∙_}
+use native.Mathlib.Omega.{arith}
+use lib.IntN.{ℤ}
 use mir.Syntax.{w32, w64}
-use Rattle.whole.specs.Machine.{read-is, read-within, handed}
+use Rattle.whole.specs.Bounds.{_within_, Exact, within-≤}
+use Rattle.whole.specs.Machine.{read, read-is, read-within, read-exact, exact-read}
+use Rattle.space.specs.Rows.{longest, broadest}
+use Rattle.points.specs.Range.{limit}
+use Rattle.direction.specs.Direction.{steepest}
 use Rattle.height.proofs.height.Statement.{statement}
 use Rattle.height.proofs.height.Tie as tie
+
+part-small : {d r : ℤ} → Exact steepest d r → read w64 r within broadest
+part-small h = within-≤ (read-within w64 (h .small) tt) (omega arith)
+
+coord-small : {d r : ℤ} → Exact limit d r → read w64 r within longest
+coord-small h = within-≤ (read-within w64 (h .small) tt) (omega arith)
+
+dot-requires : tie.Need-dot-requires
+dot-requires c κs =
+    let z = c .before .before .before in
+    let y = z .before .before in
+    let x = y .before .before in (
+      (part-small (x .wide-part .ensures), part-small (y .wide-part2 .ensures), part-small (z .wide-part3 .ensures)),
+      (coord-small (c .before .before .wide-coord .ensures), coord-small (c .before .wide-coord2 .ensures), coord-small (c .wide-coord3 .ensures)),
+    )
 
 returns : tie.Need-returns
 returns c =
@@ -12,14 +33,22 @@ returns c =
     let z = w .before .before .before in
     let y = z .before .before in
     let x = y .before .before in
-    let p = x .before .before .pre .2 in
-    let x-is = handed w64 (x .wide-part .ensures) tt ∙ read-is w32 (p .x) tt in
-    let y-is = handed w64 (y .wide-part2 .ensures) tt ∙ read-is w32 (p .y) tt in
-    let z-is = handed w64 (z .wide-part3 .ensures) tt ∙ read-is w32 (p .z) tt in
-    let e = c .sum .ensures in (
-      handed w64 e tt ∙ rw (x-is, y-is, z-is, handed w64 (w .before .before .wide-coord .ensures) tt, handed w64 (w .before .wide-coord2 .ensures) tt, handed w64 (w .wide-coord3 .ensures) tt),
-      read-within w64 (e .1) tt,
-    )
+    let (_, _, p) = x .before .before .pre in
+    let e = exact-read w64 (c .dot .ensures) tt in
+    record {
+      is = e .is ∙ rw (
+        read-exact w64 (x .wide-part .ensures) tt,
+        read-is w32 (p .x) tt,
+        read-exact w64 (y .wide-part2 .ensures) tt,
+        read-is w32 (p .y) tt,
+        read-exact w64 (z .wide-part3 .ensures) tt,
+        read-is w32 (p .z) tt,
+        read-exact w64 (w .before .before .wide-coord .ensures) tt,
+        read-exact w64 (w .before .wide-coord2 .ensures) tt,
+        read-exact w64 (w .wide-coord3 .ensures) tt,
+      );
+      small = e .small;
+    }
 
 pub height-spec : {M : Type 1} → statement M
 height-spec =
@@ -31,5 +60,5 @@ height-spec =
     (λ c κs. search needs)
     (λ c κs. search needs)
     (λ c κs. search needs)
-    (λ c κs. search needs)
+    dot-requires
     returns)

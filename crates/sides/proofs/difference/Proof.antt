@@ -6,7 +6,7 @@ use native.Mathlib.Omega.{arith}
 use lib.IntN.{_-ℤ_}
 use mir.Syntax.{w64}
 use Rattle.whole.specs.Solver.{var, _⊖_}
-use Rattle.whole.specs.Machine.{Small, same, fits, reads, reads-within}
+use Rattle.whole.specs.Machine.{Small, same, fits, computes}
 use Rattle.sides.specs.Sides.{differenceOf}
 use Rattle.sides.proofs.difference.Statement.{statement}
 use Rattle.sides.proofs.difference.Tie as tie
@@ -20,7 +20,8 @@ returns : tie.Need-returns
 unfolding differenceOf
 returns c =
     let s : Small (c .before .wide-coord .result ∷ c .wide-coord2 .result ∷ []) (same 2 8191) = omega arith in
-    (reads w64 s (var 0 ⊖ var 1) tt ∙ ap₂ _-ℤ_ (c .before .wide-coord .ensures .0) (c .wide-coord2 .ensures .0), reads-within w64 s (var 0 ⊖ var 1) tt)
+    let r = computes w64 s (var 0 ⊖ var 1) tt in
+    record { is = r .is ∙ ap₂ _-ℤ_ (c .before .wide-coord .ensures .is) (c .wide-coord2 .ensures .is); small = r .small }
 
 pub difference-spec : {M : Type 1} → statement M
 difference-spec =

@@ -1,10 +1,10 @@
--- `space::is_nought` meets its contract. Assumes nothing.
+-- `rows::is_nought` meets its contract. Assumes nothing.
 use borrow.Author.Needs.{needs}
 use borrow.Author.Tests.{not-true, not-false}
 use mir.Syntax.{w64}
 use Rattle.whole.specs.Machine.{read-is}
-use Rattle.space.proofs.is_nought.Statement.{statement}
-use Rattle.space.proofs.is_nought.Tie as tie
+use Rattle.rows.proofs.is_nought.Statement.{statement}
+use Rattle.rows.proofs.is_nought.Tie as tie
 
 returns : tie.Need-returns
 returns c =
