@@ -30,7 +30,8 @@ use Rattle.climb.specs.Course.{after, stood}
 use Rattle.walk.specs.Walk.{walked, trailAfter}
 use Rattle.direction.specs.declared.Direction.{Direction}
 use Rattle.walk.specs.declared.Walked.{Walked}
-use Rattle.outline.specs.Outline.{coordOf as coordOf², before, after as after², few, isGreater, verdict, judgedTurns, judgedOutline}
+use Rattle.once_round.specs.Words.{coordOf as coordOf², before, after as after², few, isGreater}
+use Rattle.outline.specs.Outline.{verdict, judgedTurns, judgedOutline}
 use Rattle.outline.specs.declared.Verdict.{Verdict}
 use Rattle.tape.specs.Little.{bytesOf, numberAt, bits, signed}
 use Rattle.whole.specs.Joined.{joined}

@@ -6,14 +6,14 @@ use mathlib.Core.List.{List, [], _∷_}
 use mathlib.Core.Bool.{Bool, _&&_}
 use Prim.Native.Nat.{ℕ, zero, suc, _+_, _*_, _^_}
 use native.Mathlib.Omega.{arith}
-use lib.Dec.{T, ltb}
+use lib.Dec.{T, ltb, leb, leb→le}
 use lib.IntN.{ℤ, pos, negℤ, natAbs, _+ℤ_, _-ℤ_, _*ℤ_, +ℤ-idl}
 use mir.Syntax.{Width}
 use mir.Val.{SFits, hbits, toZ, ofZ}
 use mir.Facts.{toZ-ofZ}
 use Rattle.whole.specs.Solver.{Expr, var, num, neg, _⊕_, _⊖_, _⊗_, at, eval}
 use Rattle.whole.specs.Order.{and-l, and-r}
-use Rattle.whole.specs.Bounds.{_within_, Exact, within-+, within--, within-*, within-neg, within-fits}
+use Rattle.whole.specs.Bounds.{_within_, Exact, within-+, within--, within-*, within-neg, within-≤, within-fits}
 
 -- ---- what the machine reads: a local holds bits, so the machine reads each operation's result back; and `-x` is `0 - x`
 
@@ -177,3 +177,6 @@ read-exact w h t = read-is w (h .small) t ∙ h .is
 
 pub exact-read : {r z : ℤ} {N : ℕ} (w : Width) → Exact N z r → T (ltb N (2 ^ hbits w)) → Exact N z (read w r)
 exact-read w h t = record { is = read-exact w h t; small = read-within w (h .small) t }
+
+pub read-small : {r z : ℤ} {N M : ℕ} (w : Width) → Exact N z r → T (ltb N (2 ^ hbits w)) → T (leb N M) → read w r within M
+read-small {N = N} {M} w h t l = within-≤ (read-within w (h .small) t) (leb→le N M l)

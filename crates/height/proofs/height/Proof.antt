@@ -1,30 +1,19 @@
 -- `height::height` meets its contract. Assumes nothing.
 use borrow.Author.Needs.{needs}
 use mathlib.Core.Path.{_∙_}
-use native.Mathlib.Omega.{arith}
-use lib.IntN.{ℤ}
 use mir.Syntax.{w32, w64}
-use Rattle.whole.specs.Bounds.{_within_, Exact, within-≤}
-use Rattle.whole.specs.Machine.{read, read-is, read-within, read-exact, exact-read}
-use Rattle.space.specs.Rows.{longest, broadest}
-use Rattle.points.specs.Range.{limit}
-use Rattle.direction.specs.Direction.{steepest}
+use Rattle.whole.specs.Machine.{read-is, read-small, read-exact, exact-read}
 use Rattle.height.proofs.height.Statement.{statement}
 use Rattle.height.proofs.height.Tie as tie
 
-part-small : {d r : ℤ} → Exact steepest d r → read w64 r within broadest
-part-small h = within-≤ (read-within w64 (h .small) tt) (omega arith)
-
-coord-small : {d r : ℤ} → Exact limit d r → read w64 r within longest
-coord-small h = within-≤ (read-within w64 (h .small) tt) (omega arith)
-
 dot-requires : tie.Need-dot-requires
 dot-requires c κs =
-    let z = c .before .before .before in
+    let w = c .before in
+    let z = w .before .before in
     let y = z .before .before in
     let x = y .before .before in (
-      (part-small (x .wide-part .ensures), part-small (y .wide-part2 .ensures), part-small (z .wide-part3 .ensures)),
-      (coord-small (c .before .before .wide-coord .ensures), coord-small (c .before .wide-coord2 .ensures), coord-small (c .wide-coord3 .ensures)),
+      (read-small w64 (x .wide-part .ensures) tt tt, read-small w64 (y .wide-part2 .ensures) tt tt, read-small w64 (z .wide-part3 .ensures) tt tt),
+      (read-small w64 (w .before .wide-coord .ensures) tt tt, read-small w64 (w .wide-coord2 .ensures) tt tt, read-small w64 (c .wide-coord3 .ensures) tt tt),
     )
 
 returns : tie.Need-returns
