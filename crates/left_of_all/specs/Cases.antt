@@ -69,6 +69,7 @@ unfolding judgedOutline judgedTurns few firstBelow isOut det isGreater coordOf b
 last = refl
 
 -- a triangle gone round twice
-twice : judgedOutline (pos 0 ∷ pos 0 ∷ pos 2 ∷ pos 0 ∷ pos 0 ∷ pos 2 ∷ pos 0 ∷ pos 0 ∷ pos 2 ∷ pos 0 ∷ pos 0 ∷ pos 2 ∷ []) ≡ verdict 26 4
+twice : judgedOutline (pos 0 ∷ pos 0 ∷ pos 2 ∷ pos 0 ∷ pos 0 ∷ pos 2 ∷ pos 0 ∷ pos 0 ∷ pos 2 ∷ pos 0 ∷ pos 0 ∷ pos 2 ∷ [])
+    ≡ verdict 26 4
 unfolding judgedOutline judgedTurns few firstBelow isOut det isGreater coordOf before after
 twice = refl

@@ -62,7 +62,8 @@ module _ (points : List ℤ) where
       to true e h = absurd (differ t h)
       to false e h = (counted points e, h)
 
-  pub past-range : (m i : ℕ) → Other 24 m → Other 2 m → (judgedOutline points ≡ verdict m i) ↔ (Limits points × (judgedTurns points ≡ verdict m i))
+  pub past-range : (m i : ℕ) → Other 24 m → Other 2 m
+      → (judgedOutline points ≡ verdict m i) ↔ (Limits points × (judgedTurns points ≡ verdict m i))
   past-range m i t u = (to, λ h. past-few m i t .1 (h .0 .counted, ranges .1 (λ j l. none-out points (h .0 .range) j, h .1)))
     where
       ranges : (afterFew ≡ verdict m i) ↔ (None (outOfRange points) (count points) × (judgedTurns points ≡ verdict m i))
@@ -78,7 +79,8 @@ module _ (points : List ℤ) where
   unfolding judgedTurns
   turned m i t = passed 25 (notLeft points) (count points) afterLeft m i t
 
-  pub past-left : (m i : ℕ) → Other 24 m → Other 2 m → Other 25 m → (judgedOutline points ≡ verdict m i) ↔ (LocallyConvex points × (afterLeft ≡ verdict m i))
+  pub past-left : (m i : ℕ) → Other 24 m → Other 2 m → Other 25 m
+      → (judgedOutline points ≡ verdict m i) ↔ (LocallyConvex points × (afterLeft ≡ verdict m i))
   past-left m i t u w = (to, λ h. past-range m i t u .1 (h .0 .limits, turned m i w .1 (λ j l. ap not (h .0 .turns j l), h .1)))
     where
       to : judgedOutline points ≡ verdict m i → LocallyConvex points × (afterLeft ≡ verdict m i)
@@ -87,7 +89,8 @@ module _ (points : List ℤ) where
           let b = turned m i w .0 (a .1) in
           (record { limits = a .0; turns = λ j l. not-false (left points j) (b .0 j l) }, b .1)
 
-  pub past-wound : (m i : ℕ) → Other 26 m → (afterLeft ≡ verdict m i) ↔ (None (wound points) (count points) × (verdict 0 (count points) ≡ verdict m i))
+  pub past-wound : (m i : ℕ) → Other 26 m
+      → (afterLeft ≡ verdict m i) ↔ (None (wound points) (count points) × (verdict 0 (count points) ≡ verdict m i))
   past-wound = passed 26 (wound points) (count points) (verdict 0 (count points))
 
   -- ---- no number is answered later in the order

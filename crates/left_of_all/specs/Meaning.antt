@@ -11,7 +11,8 @@ use Rattle.outline.specs.declared.Verdict.{Verdict}
 use Rattle.once_round.specs.Words.{count, few, outOfRange, notLeft, far, wound, Counted, Limits, LocallyConvex, AllLeft}
 use Rattle.outline.specs.Outline.{verdict, judgedTurns, judgedOutline}
 use Rattle.once_round.specs.Limits.{counted, not-few}
-use Rattle.left_of_all.specs.InOrder.{differ, refused, afterFew, afterLeft, past-few, past-range, past-left, past-wound, not-after-few, not-turns, not-after-left}
+use Rattle.left_of_all.specs.InOrder.{differ, refused, afterFew, afterLeft, past-few, past-range}
+use Rattle.left_of_all.specs.InOrder.{past-left, past-wound, not-after-few, not-turns, not-after-left}
 use Rattle.once_round.specs.Second.{AtMostOne, One, Second, at-most-one, no-second, the-second}
 use Rattle.once_round.specs.Round.{theorem-5, one-far}
 
@@ -37,23 +38,36 @@ module _ (points : List ℤ) where
 
   -- "2 RANGE, first point" with a coordinate outside its limits
   pub range-means : (i : ℕ) → (judgedOutline points ≡ verdict 2 i) ↔ (Counted points × FirstAt (outOfRange points) (count points) i)
-  range-means i = Iff·trans (past-few points 2 i tt) (Iff·and Iff·rfl (refused 2 (outOfRange points) (count points) (judgedTurns points) i (not-turns points 2 i tt tt tt)))
+  range-means i =
+      Iff·trans (past-few points 2 i tt)
+      (Iff·and Iff·rfl (refused 2 (outOfRange points) (count points) (judgedTurns points) i (not-turns points 2 i tt tt tt)))
 
   -- "25 LEFT, first point whose turn isn't left"
   pub left-means : (i : ℕ) → (judgedOutline points ≡ verdict 25 i) ↔ (Limits points × FirstAt (notLeft points) (count points) i)
   unfolding judgedTurns
-  left-means i = Iff·trans (past-range points 25 i tt tt) (Iff·and Iff·rfl (refused 25 (notLeft points) (count points) (afterLeft points) i (not-after-left points 25 i tt tt)))
+  left-means i =
+      Iff·trans (past-range points 25 i tt tt)
+      (Iff·and Iff·rfl (refused 25 (notLeft points) (count points) (afterLeft points) i (not-after-left points 25 i tt tt)))
 
   -- "26 WOUND, second far point counting from point 0"
   pub wound-means : (i : ℕ) → (judgedOutline points ≡ verdict 26 i) ↔ (LocallyConvex points × Second (far points) (count points) i)
   wound-means i =
       Iff·trans (past-left points 26 i tt tt tt)
-      (Iff·and Iff·rfl (Iff·trans (refused 26 (wound points) (count points) (verdict 0 (count points)) i (differ tt)) (the-second (far points) (count points) i)))
+      (Iff·and Iff·rfl (Iff·trans (refused 26 (wound points) (count points) (verdict 0 (count points)) i (differ tt))
+      (the-second (far points) (count points) i)))
 
   -- ---- acceptance
 
   tests : (i : ℕ) → (judgedOutline points ≡ verdict 0 i) ↔ ((LocallyConvex points × AtMostOne (far points) (count points)) × (i ≡ count points))
-  tests i = (to, λ h. past-left points 0 i tt tt tt .1 (h .0 .0, past-wound points 0 i tt .1 (no-second (far points) (count points) (h .0 .1), ap (verdict 0) (sym (h .1)))))
+  tests i = (
+    to,
+    λ h.
+        past-left points 0 i tt tt tt .1 (
+          h .0 .0,
+          past-wound points 0 i tt .1
+              (no-second (far points) (count points) (h .0 .1), ap (verdict 0) (sym (h .1))),
+        ),
+  )
     where
       to : judgedOutline points ≡ verdict 0 i → (LocallyConvex points × AtMostOne (far points) (count points)) × (i ≡ count points)
       to e =
@@ -66,7 +80,8 @@ module _ (points : List ℤ) where
   accepted i = Iff·trans (tests i) (Iff·and (theorem-5 points) Iff·rfl)
 
   -- "At each point the turn .. is strictly left, and exactly one point is a far point"
-  pub accepted-far : (i : ℕ) → (judgedOutline points ≡ verdict 0 i) ↔ ((LocallyConvex points × One (far points) (count points)) × (i ≡ count points))
+  pub accepted-far : (i : ℕ)
+      → (judgedOutline points ≡ verdict 0 i) ↔ ((LocallyConvex points × One (far points) (count points)) × (i ≡ count points))
   accepted-far i = Iff·trans (tests i) (Iff·and (one-far points) Iff·rfl)
 
   -- the same, for a caller that looks at the number alone

@@ -22,7 +22,8 @@ leftward = detᵒ exprs (vec (num (pos 1)) (num (negsuc 16382)))
 by-x : (a b : Vec ℤ) → a .y within limit → b .y within limit → a .x <ℤ b .x → det down a <ℤ det down b
 unfolding det
 by-x a b ha hb h =
-    prove² 2 (λ a b. a .x ≺ b .x ⇒ λ h. a .y ≼ num (pos 8191) ⇒ λ p. num (negsuc 8190) ≼ b .y ⇒ λ q. leftward a ≺ leftward b since lit 16383 ⊠ hyp h ⊞ hyp p ⊞ hyp q)
+    prove² 2 (λ a b. a .x ≺ b .x ⇒ λ h. a .y ≼ num (pos 8191) ⇒ λ p.
+    num (negsuc 8190) ≼ b .y ⇒ λ q. leftward a ≺ leftward b since lit 16383 ⊠ hyp h ⊞ hyp p ⊞ hyp q)
     tt a b h (within-high ha) (within-low hb)
 
 by-y : (a b : Vec ℤ) → a .x ≡ b .x → a .y <ℤ b .y → det down a <ℤ det down b

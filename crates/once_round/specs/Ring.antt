@@ -89,7 +89,8 @@ module _ (e : Vec ℤ) (n : ℕ) (p : ℕ → Vec ℤ) (round : (i : ℕ) → p 
       go (inl a) b = subst (λ k. Side e false (sub (p k) (p (suc i)))) a (f .down)
       go (inr a) (inl b) =
           let c : i + n ≡ j = omega arith in
-          subst (λ q. Side e false (sub q (p (suc i)))) (sym (round i) ∙ ap p c) (subst (Side e false) (opp-sub (p i) (p (suc i))) (flip e true (edge p i) (f .up)))
+          subst (λ q. Side e false (sub q (p (suc i)))) (sym (round i) ∙ ap p c)
+          (subst (Side e false) (opp-sub (p i) (p (suc i))) (flip e true (edge p i) (f .up)))
       go (inr a) (inr b) =
           peak e (edge p i) (edge p (suc i)) (sub (p j) (p (suc i))) (f .up) (f .down) (convex-turns three h i)
           (rw (lies-turn (p i) (p (suc i)) (p j)) at (h i j (omega arith) (omega arith))) (h (suc i) j a (omega arith))
@@ -98,7 +99,8 @@ module _ (e : Vec ℤ) (n : ℕ) (p : ℕ → Vec ℤ) (round : (i : ℕ) → p 
   convex-one-far three h i j l m f g = apart e true (sub (p (suc i)) (p (suc j))) above below
     where
       above : Side e true (sub (p (suc i)) (p (suc j)))
-      above = subst (Side e true) (opp-sub (p (suc i)) (p (suc j))) (flip e false (sub (p (suc j)) (p (suc i))) (highest three h i (suc j) f (omega arith) (omega arith)))
+      above = subst (Side e true) (opp-sub (p (suc i)) (p (suc j)))
+          (flip e false (sub (p (suc j)) (p (suc i))) (highest three h i (suc j) f (omega arith) (omega arith)))
 
       below : Side e false (sub (p (suc i)) (p (suc j)))
       below = subst (λ q. Side e false (sub q (p (suc j)))) (round (suc i)) (highest three h j (suc i + n) g (omega arith) (omega arith))
@@ -130,7 +132,11 @@ module _ (e : Vec ℤ) (n : ℕ) (p : ℕ → Vec ℤ) (round : (i : ℕ) → p 
     pub some-far : 0 < n → ((i : ℕ) → Far e p i → ⊥) → ⊥
     some-far some none = elim (slope 0) [
       | inl up ↦ mixed true some (λ t l. elim (slope t) [ inl h ↦ h | inr h ↦ let f = fall 0 t zero-le up h in absurd (none (f .0) (f .3)) ])
-      | inr down ↦ mixed false some (λ t l. elim (slope t) [ inl h ↦ let f = fall t n (omega arith) h (rw (closed-edge) down) in absurd (none (f .0) (f .3)) | inr h ↦ h ])
+      | inr down ↦ mixed false some
+          (λ t l. elim (slope t) [
+            | inl h ↦ let f = fall t n (omega arith) h (rw (closed-edge) down) in absurd (none (f .0) (f .3))
+            | inr h ↦ h
+          ])
     ]
 
     module _ (one : OneFar e n p) where
@@ -153,13 +159,15 @@ module _ (e : Vec ℤ) (n : ℕ) (p : ℕ → Vec ℤ) (round : (i : ℕ) → p 
         chain s i (suc j) l h = elim (eq-or-lt-of-le (le-of-suc-le-suc l)) [
           | inl c ↦ rw c (turns j)
           | inr c ↦
-              turn e s (edge p i) (edge p j) (edge p (suc j)) (h i (omega arith) (omega arith)) (h j (omega arith) (omega arith)) (h (suc j) (omega arith) (omega arith))
+              turn e s (edge p i) (edge p j) (edge p (suc j))
+              (h i (omega arith) (omega arith)) (h j (omega arith) (omega arith)) (h (suc j) (omega arith) (omega arith))
               (lt→le (chain s i j c (λ k a b. h k a (omega arith)))) (turns j)
         ]
 
         module _ (s : Bool) (i : ℕ) (hi : Side e s (edge p i)) where
           -- no edge from l to the end of the round is on the other side
-          back : (l : ℕ) → l < i + n → ((t : ℕ) → l ≤ t → t ≤ i + n → Side e (not s) (edge p t) → ⊥) → det (edge p i) (edge p l) <ℤ pos 0
+          back : (l : ℕ) → l < i + n → ((t : ℕ) → l ≤ t → t ≤ i + n → Side e (not s) (edge p t) → ⊥)
+              → det (edge p i) (edge p l) <ℤ pos 0
           back l m none =
               turn-back (edge p l) (edge p i) (rw (edge-round i) at
               (chain s l (i + n) m (λ t a b. elim (sides s t) [ inl h ↦ h | inr h ↦ absurd (none t a b h) ])))
@@ -168,7 +176,8 @@ module _ (e : Vec ℤ) (n : ℕ) (p : ℕ → Vec ℤ) (round : (i : ℕ) → p 
           after : (k l : ℕ) → suc i ≤ k → k < l → l < i + n → det (edge p i) (edge p k) ≤ℤ pos 0 → det (edge p i) (edge p l) <ℤ pos 0
           after k l a b c h = go (sides s k) (sides s l)
             where
-              go : Side e s (edge p k) ⊎ Side e (not s) (edge p k) → Side e s (edge p l) ⊎ Side e (not s) (edge p l) → det (edge p i) (edge p l) <ℤ pos 0
+              go : Side e s (edge p k) ⊎ Side e (not s) (edge p k) → Side e s (edge p l) ⊎ Side e (not s) (edge p l)
+                  → det (edge p i) (edge p l) <ℤ pos 0
               go (inl hk) hl = back l c (λ t d f ht. clash (chain s i k a (λ x v w. elim (sides s x) [
                 | inl hx ↦ hx
                 | inr hx ↦ absurd (alternate s i x k t v w (omega arith) f hi hx hk ht)
@@ -183,7 +192,8 @@ module _ (e : Vec ℤ) (n : ℕ) (p : ℕ → Vec ℤ) (round : (i : ℕ) → p 
         pub convex : Convex n p
         convex i j l m =
             hill (lies p i) (suc i) (i + n) (eq→le (sym (lies-end (p i) (p (suc i))))) (rw (round i) (eq→le (sym (lies-start (p i) (p (suc i))))))
-            (λ k l a b c h. down-by (lies p i l) (det (edge p i) (edge p l)) (lies p i (suc l)) (next l) (falling k l a b c (up-by (lies p i k) (det (edge p i) (edge p k)) (lies p i (suc k)) (next k) h)))
+            (λ k l a b c h. down-by (lies p i l) (det (edge p i) (edge p l)) (lies p i (suc l)) (next l)
+            (falling k l a b c (up-by (lies p i k) (det (edge p i) (edge p k)) (lies p i (suc k)) (next k) h)))
             j l m
           where
             next : (k : ℕ) → lies p i (suc k) ≡ lies p i k +ℤ det (edge p i) (edge p k)

@@ -55,7 +55,8 @@ module _ (points : List ℤ) (three : 3 ≤ count points) where
   elsewhere i j a b e = elim (decLt (i % n + (j - i)) n) [
     | yes l ↦ let f = sym (mod-eq-of-lt l) ∙ e' in omega arith
     | no l ↦
-        let f = sym (mod-eq-of-lt {n = i % n + (j - i) - n} {m = n} (omega (arith, inside i))) ∙ sym (mod-eq-sub-mod {n = i % n + (j - i)} {m = n} (omega arith)) ∙ e' in
+        let f = sym (mod-eq-of-lt {n = i % n + (j - i) - n} {m = n} (omega (arith, inside i)))
+        ∙ sym (mod-eq-sub-mod {n = i % n + (j - i)} {m = n} (omega arith)) ∙ e' in
         omega arith
   ]
     where
@@ -172,8 +173,12 @@ module _ (points : List ℤ) where
       to (c, one) =
           let three = c .limits .counted .least in
           let range = c .limits .range in
-          let turns = all-turns points three (c .turns) in
-          (c .limits, to-left points three (convex down (count points) (ring points three) (round points three) (slope points three range turns) (ring-one points three range one) turns))
+          let turns = all-turns points three (c .turns) in (
+            c .limits,
+            to-left points three
+                (convex down (count points) (ring points three) (round points three)
+                (slope points three range turns) (ring-one points three range one) turns),
+          )
 
       from : Limits points × AllLeft points → LocallyConvex points × AtMostOne (far points) (count points)
       from (l, h) =

@@ -62,7 +62,8 @@ module _ (e : Vec ℤ) where
   turn-up : (u v w : Vec ℤ) → Side e true u → Side e true v → Side e true w → pos 0 ≤ℤ det u v → pos 0 <ℤ det v w → pos 0 <ℤ det u w
   turn-up u v w hu hv hw a b =
       not-le (λ c. never (prove 6 (λ uv vw uw eu ev ew. let o = num (pos 0) in
-      uw ⊗ ev ≃ uv ⊗ ew ⊕ vw ⊗ eu ⇒ λ t. o ≺ eu ⇒ λ hu. o ≺ ev ⇒ λ hv. o ≺ ew ⇒ λ hw. o ≼ uv ⇒ λ a. o ≺ vw ⇒ λ b. uw ≼ o ⇒ λ c.
+      uw ⊗ ev ≃ uv ⊗ ew ⊕ vw ⊗ eu ⇒ λ t. o ≺ eu ⇒ λ hu. o ≺ ev ⇒ λ hv. o ≺ ew ⇒ λ hw.
+      o ≼ uv ⇒ λ a. o ≺ vw ⇒ λ b. uw ≼ o ⇒ λ c.
       num (pos 1) ≼ o since hyp a ⊠ hyp hw ⊞ hyp a ⊞ hyp b ⊠ hyp hu ⊞ hyp b ⊞ hyp hu ⊞ hyp c ⊠ hyp hv ⊞ hyp c ⊞ by (num (negsuc 0)) t)
       tt (det u v) (det v w) (det u w) (det e u) (det e v) (det e w) (seen-along e u v w) hu hv hw a b c))
 
@@ -72,7 +73,8 @@ module _ (e : Vec ℤ) where
       rw (det-opp u w) at (turn-up (opp u) (opp v) (opp w) (flip false u hu) (flip false v hv) (flip false w hw) (rw (det-opp u v) a) (rw (det-opp v w) b))
 
   -- one step on one side and two on the other, a turn not left and a turn left: the turn from the first to the third is right
-  pub across : (s : Bool) (u v w : Vec ℤ) → Side e s u → Side e (not s) v → Side e (not s) w → det u v ≤ℤ pos 0 → pos 0 <ℤ det v w → det u w <ℤ pos 0
+  pub across : (s : Bool) (u v w : Vec ℤ) → Side e s u → Side e (not s) v → Side e (not s) w → det u v ≤ℤ pos 0
+      → pos 0 <ℤ det v w → det u w <ℤ pos 0
   across s u v w hu hv hw a b =
       neg-neg-< (det u w) (rw (det-opp-l u w) at (turn (not s) (opp u) v w (flip s u hu) hv hw (rw (det-opp-l u v) (neg-≤ (det u v) a)) b))
 
@@ -80,6 +82,8 @@ module _ (e : Vec ℤ) where
   pub peak : (u w x : Vec ℤ) → Side e true u → Side e false w → pos 0 <ℤ det u w → pos 0 <ℤ det u x → pos 0 <ℤ det w x → Side e false x
   peak u w x hu hw d a b =
       not-le (λ c. never (prove 6 (λ uw ux xw eu ew ex. let o = num (pos 0) in
-      uw ⊗ ex ≃ ux ⊗ ew ⊕ xw ⊗ eu ⇒ λ t. o ≺ eu ⇒ λ hu. ew ≺ o ⇒ λ hw. o ≺ uw ⇒ λ d. o ≺ ux ⇒ λ a. xw ≺ o ⇒ λ b. o ≼ ex ⇒ λ c.
-      num (pos 1) ≼ o since hyp d ⊠ hyp c ⊞ hyp c ⊞ hyp a ⊠ hyp hw ⊞ hyp a ⊞ hyp hw ⊞ hyp b ⊠ hyp hu ⊞ hyp b ⊞ hyp hu ⊞ by (num (pos 1)) t)
+      uw ⊗ ex ≃ ux ⊗ ew ⊕ xw ⊗ eu ⇒ λ t. o ≺ eu ⇒ λ hu. ew ≺ o ⇒ λ hw. o ≺ uw ⇒ λ d.
+      o ≺ ux ⇒ λ a. xw ≺ o ⇒ λ b. o ≼ ex ⇒ λ c.
+      num (pos 1) ≼ o since hyp d ⊠ hyp c ⊞ hyp c ⊞ hyp a ⊠ hyp hw ⊞ hyp a ⊞ hyp hw ⊞
+      hyp b ⊠ hyp hu ⊞ hyp b ⊞ hyp hu ⊞ by (num (pos 1)) t)
       tt (det u w) (det u x) (det x w) (det e u) (det e w) (det e x) (seen-along e u x w) hu hw d a (turn-back w x b) c))

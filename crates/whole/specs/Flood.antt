@@ -125,7 +125,8 @@ pub record Pushing (size : ℕ) (mark : List ℕ) (tail g : ℕ) : Type 0 where
   pub short : tail ≤ size
   pub room : getD mark g 0 ≡ 0 → tail < size
 
-module _ {size m : ℕ} {R : ℕ → Type 0} {mark queue : List ℕ} {tail : ℕ} (Q : Queue size m R mark queue tail) (fits : m ≤ size) {g : ℕ} (l : g < m) where
+module _ {size m : ℕ} {R : ℕ → Type 0} {mark queue : List ℕ} {tail : ℕ}
+    (Q : Queue size m R mark queue tail) (fits : m ≤ size) {g : ℕ} (l : g < m) where
   pub pushing : Pushing size mark tail g
   pushing = record { place = omega arith; short = omega (arith, tail-le Q fits); room = λ e. some-room Q fits l e }
 
@@ -142,7 +143,8 @@ module _ {size m : ℕ} {R : ℕ → Type 0} {mark queue : List ℕ} {tail : ℕ
 
 -- ---- a turn: all that b p names for p from lo to hi are pushed
 
-pub record Spread (size m : ℕ) (R : ℕ → Type 0) (b : ℕ → ℕ) (lo hi : ℕ) (mark queue : List ℕ) (tail : ℕ) (mark′ queue′ : List ℕ) (tail′ : ℕ) : Type 0 where
+pub record Spread (size m : ℕ) (R : ℕ → Type 0) (b : ℕ → ℕ) (lo hi : ℕ)
+    (mark queue : List ℕ) (tail : ℕ) (mark′ queue′ : List ℕ) (tail′ : ℕ) : Type 0 where
   pub queued : Queue size m R mark′ queue′ tail′
   pub kept : Kept mark queue tail mark′ queue′ tail′
   pub done : (p : ℕ) → lo ≤ p → p < hi → marked mark′ (b p) ≡ true
@@ -151,7 +153,8 @@ pub spread-0 : {size m : ℕ} {R : ℕ → Type 0} {mark queue : List ℕ} {tail
     → Spread size m R b lo lo mark queue tail mark queue tail
 spread-0 {mark} {queue} {tail} b lo Q = record { queued = Q; kept = keep mark queue tail; done = λ p l k. absurd (omega arith) }
 
-pub spread-more : {size m : ℕ} {R : ℕ → Type 0} {b : ℕ → ℕ} {lo p : ℕ} {mark queue mark′ queue′ mark″ queue″ : List ℕ} {tail tail′ tail″ : ℕ}
+pub spread-more : {size m : ℕ} {R : ℕ → Type 0} {b : ℕ → ℕ} {lo p : ℕ} {mark queue mark′ queue′ mark″ queue″ : List ℕ}
+    {tail tail′ tail″ : ℕ}
     → Spread size m R b lo p mark queue tail mark′ queue′ tail′ → Pushed size m R mark′ queue′ tail′ mark″ queue″ tail″ (b p)
     → Spread size m R b lo (p + 1) mark queue tail mark″ queue″ tail″
 spread-more {p = p} S P = record {
