@@ -6,6 +6,7 @@ use mathlib.Core.Bool.{Bool}
 use lib.IntN.{ℤ}
 use lib.ListN.{length, getD}
 use Rattle.points.specs.Points.{vertices, Ranged, Vertex}
+use Rattle.sides.specs.Sides.{Three}
 use Rattle.tables.specs.Tables.{facets, sides, facetOf}
 use Rattle.tables.specs.Facets.{Clear}
 use Rattle.tables.specs.Places.{Sound, part-length, sides-some, sides-few, corner-at, place-below}
@@ -15,6 +16,11 @@ pub record Facet (points : List ℤ) (part : List ℕ) : Type 0 where
   pub some : 3 ≤ length part
   pub few : length part ≤ 12
   pub named : (p : ℕ) → p < length part → Vertex points (getD part p 0)
+
+-- the corners that its plane comes from
+pub first-three : {points : List ℤ} {part : List ℕ} → Facet points part → Three points (getD part 0 0) (getD part 1 0) (getD part 2 0)
+first-three f =
+    record { ranged = f .ranged; first = f .named 0 (omega arith); second = f .named 1 (omega arith); third = f .named 2 (omega arith) }
 
 -- tables that pass 1 to 3
 pub record Measured (points : List ℤ) (corners begins : List ℕ) : Type 0 where

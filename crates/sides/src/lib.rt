@@ -4,7 +4,7 @@ ghost use Prim.Native.Nat.{_<_};
 ghost use Rattle.whole.specs.Bounds.{Exact};
 ghost use Rattle.space.specs.Rows.{Row, ExactRow, longest, widest};
 ghost use Rattle.points.specs.Points.{Vertex, Ranged};
-ghost use Rattle.sides.specs.Sides.{differenceOf, rowOf, normalOf, sign, sideOf, inLine, isLeft, isInside, isOn};
+ghost use Rattle.sides.specs.Sides.{Three, differenceOf, rowOf, normalOf, sign, sideOf, inLine, isLeft, isInside, isOn};
 
 // Coordinate k of the step from a to b.
 fn difference(points: &[i32], a: u16, b: u16, k: usize) -> i64
@@ -70,8 +70,8 @@ pub fn is_on(side: Side) -> bool
 
 // The side of the plane through a, b and c that d is on.
 pub fn side_of(points: &[i32], a: u16, b: u16, c: u16, d: u16) -> Side
-    requires { ⌜ Ranged (now points) ⌝ }
-    requires { ⌜ Vertex (now points) a × Vertex (now points) b × Vertex (now points) c × Vertex (now points) d ⌝ }
+    requires { ⌜ Three (now points) a b c ⌝ }
+    requires { ⌜ Vertex (now points) d ⌝ }
     ensures { λ r. ⌜ r ≡ sideOf (now (points .entry)) a b c d ⌝ }
 {
     sign(rows::determinant([row(points, a, b), row(points, a, c), row(points, a, d)]))
@@ -79,8 +79,7 @@ pub fn side_of(points: &[i32], a: u16, b: u16, c: u16, d: u16) -> Side
 
 // The normal of the plane through a, b and c.
 pub fn normal(points: &[i32], a: u16, b: u16, c: u16) -> [i64; 3]
-    requires { ⌜ Ranged (now points) ⌝ }
-    requires { ⌜ Vertex (now points) a × Vertex (now points) b × Vertex (now points) c ⌝ }
+    requires { ⌜ Three (now points) a b c ⌝ }
     ensures { λ r. ⌜ ExactRow widest (normalOf (now (points .entry)) a b c) r ⌝ }
 {
     rows::cross(row(points, a, b), row(points, a, c))
@@ -88,8 +87,7 @@ pub fn normal(points: &[i32], a: u16, b: u16, c: u16) -> [i64; 3]
 
 // Whether a, b and c lie in line: their plane's normal is nought.
 pub fn in_line(points: &[i32], a: u16, b: u16, c: u16) -> bool
-    requires { ⌜ Ranged (now points) ⌝ }
-    requires { ⌜ Vertex (now points) a × Vertex (now points) b × Vertex (now points) c ⌝ }
+    requires { ⌜ Three (now points) a b c ⌝ }
     ensures { λ r. ⌜ r ≡ inLine (now (points .entry)) a b c ⌝ }
 {
     rows::is_nought(normal(points, a, b, c))
@@ -97,8 +95,8 @@ pub fn in_line(points: &[i32], a: u16, b: u16, c: u16) -> bool
 
 // Whether c lies strictly left of the edge from a to b, seen against the normal n.
 pub fn is_left(points: &[i32], n: [i64; 3], a: u16, b: u16, c: u16) -> bool
-    requires { ⌜ Ranged (now points) × Row widest n ⌝ }
-    requires { ⌜ Vertex (now points) a × Vertex (now points) b × Vertex (now points) c ⌝ }
+    requires { ⌜ Three (now points) a b c ⌝ }
+    requires { ⌜ Row widest n ⌝ }
     ensures { λ r. ⌜ r ≡ isLeft (now (points .entry)) n a b c ⌝ }
 {
     space::is_above(rows::determinant([n, row(points, a, b), row(points, a, c)]))

@@ -1,5 +1,5 @@
 -- Rows of three whole numbers, and the determinant of three rows. Assumes nothing.
-use Prim.Native.Nat.{ℕ, zero, suc, zero-le}
+use Prim.Native.Nat.{ℕ, zero, suc, _+_, _*_, zero-le}
 use mathlib.Core.Path.{_≡_}
 use mathlib.Core.List.{List, [], _∷_}
 use native.Mathlib.Omega.{arith}
@@ -11,8 +11,8 @@ use Rattle.space.specs.Vec.{Vec, vec, cross}
 use Rattle.space.specs.Vectors.{det}
 use Rattle.space.specs.Plane as plane
 
--- a difference of two coordinates is within 2 · 8,191, a part of a normal within twice the square of that, a part of the cross product of
--- a normal and a step within twice their product, and three products of such a part and a step's within the last
+-- the bounds of a number of a step, of a normal, of the cross product of a normal and a step, and of the product of that with a step:
+-- 2 · 8,191, twice its square, and what follows from these two
 abbrev pub longest : ℕ
 longest = 16382
 
@@ -20,10 +20,10 @@ abbrev pub widest : ℕ
 widest = 536739848
 
 abbrev pub broadest : ℕ
-broadest = 17585744379872
+broadest = widest * longest + widest * longest
 
 abbrev pub largest : ℕ
-largest = 864268993293189312
+largest = broadest * longest + broadest * longest + broadest * longest
 
 abbrev pub Difference : ℤ → Type 0
 Difference z = z within longest

@@ -7,6 +7,7 @@ use Prim.Native.Nat.{_-_}
 use lib.ListN.{length}
 use Rattle.whole.specs.First.{yet-more, yet-hit, yet-end}
 use Rattle.sides.specs.Sides.{isOn}
+use Rattle.flat.specs.Facet.{first-three}
 use Rattle.flat.specs.Rules.{Unbent, bent-later, in-line-at, not-in-line}
 use Rattle.flat.proofs.first_bent.Statement.{statement}
 use Rattle.flat.proofs.first_bent.Tie as tie
@@ -18,10 +19,7 @@ abbrev μ-loop : tie.MeasureT-loop
 μ-loop points part p₀ p = length part - p
 
 in-line-requires : tie.Need-in-line-requires Inv-loop μ-loop
-in-line-requires c κs =
-    let f = c .before .before .before .before .pre in
-    let n = f .named in
-    (f .ranged, (n 0 (omega (arith, f .some)), n 1 (omega (arith, f .some)), n 2 (omega (arith, f .some))))
+in-line-requires c κs = first-three (c .before .before .before .before .pre)
 
 returns : tie.Need-returns Inv-loop μ-loop
 returns c =

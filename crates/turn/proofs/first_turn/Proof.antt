@@ -6,6 +6,7 @@ use native.Mathlib.Omega.{arith}
 use Prim.Native.Nat.{_-_}
 use lib.ListN.{length}
 use Rattle.whole.specs.First.{yet-0, yet-more, yet-hit, yet-end}
+use Rattle.flat.specs.Facet.{first-three}
 use Rattle.turn.specs.Rules.{isTurn, Unturned}
 use Rattle.turn.proofs.first_turn.Statement.{statement}
 use Rattle.turn.proofs.first_turn.Tie as tie
@@ -17,10 +18,7 @@ abbrev μ-loop : tie.MeasureT-loop
 μ-loop points part n p₀ p = length part - p
 
 normal-requires : tie.Need-normal-requires Inv-loop μ-loop
-normal-requires c κs =
-    let f = c .before .before .before .before .pre in
-    let n = f .named in
-    (f .ranged, (n 0 (omega (arith, f .some)), n 1 (omega (arith, f .some)), n 2 (omega (arith, f .some))))
+normal-requires c κs = first-three (c .before .before .before .before .pre)
 
 loop-holds : tie.Need-loop-holds Inv-loop μ-loop
 loop-holds c =

@@ -19,7 +19,7 @@ strays-requires : tie.Need-strays-requires Inv-loop μ-loop
 strays-requires c κs =
     let l = c .before .before in
     let (f, r, a, b) = l .before .before .pre in
-    ((f .ranged, r), (a, b, f .named (l .loop .q) (omega arith)))
+    (record { ranged = f .ranged; first = a; second = b; third = f .named (l .loop .q) (omega arith) }, r)
 
 returns : tie.Need-returns Inv-loop μ-loop
 returns c =
