@@ -48,9 +48,9 @@ module _ (points : List ℤ) (corners begins : List ℕ) where
 
   pub faultless-convex : Faultless points corners begins → Convex (tablesOf points corners begins)
   faultless-convex F =
-      let laid = measured-after F (omega arith) .sound .laid in
+      let laid = measured-after points corners begins F (omega arith) .sound .laid in
       record {
-        closed = closed-after F (omega arith);
+        closed = closed-after points corners begins F (omega arith);
         flat = flat points laid (F .none 8 (omega arith)) (F .none 9 (omega arith));
         outside = inside points laid (F .none 11 (omega arith));
       }
@@ -79,7 +79,7 @@ module _ (points : List ℤ) (corners begins : List ℕ) where
 
   pub accepts-exactly : judged points corners begins .number ≡ 0 ↔ (InOrder points corners begins × Convex (tablesOf points corners begins))
   accepts-exactly = (
-    λ e. let F = faultless e in (after-3 F (omega arith), faultless-convex F),
+    λ e. let F = faultless e in (after-3 points corners begins F (omega arith), faultless-convex F),
     λ (W, C). ap (λ a. a .number) (faultless-accepted (convex-faultless W C)),
   )
 
@@ -95,7 +95,7 @@ module _ (points : List ℤ) (corners begins : List ℕ) where
 
   module _ (e : judged points corners begins .number ≡ 0) where
     pub is-measured : Measured points corners begins
-    is-measured = measured-after (faultless e) (omega arith)
+    is-measured = measured-after points corners begins (faultless e) (omega arith)
 
     pub is-convex : Convex (tablesOf points corners begins)
     is-convex = faultless-convex (faultless e)

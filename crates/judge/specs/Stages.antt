@@ -21,7 +21,7 @@ use Rattle.stages.specs.Known.{measured}
 use Rattle.judge.specs.Judge.{rules}
 
 -- of tables that pass the first n rules
-module _ {points : List ℤ} {corners begins : List ℕ} {n : ℕ} (P : Passes (rules points corners begins) n) where
+module _ (points : List ℤ) (corners begins : List ℕ) {n : ℕ} (P : Passes (rules points corners begins) n) where
   pub after-3 : 3 ≤ n → InOrder points corners begins
   after-3 l = record {
     sizes = never (whole (isSize points corners begins)) (P .none 0 (omega arith));

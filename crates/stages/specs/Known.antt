@@ -7,12 +7,11 @@ use lib.IntN.{ℤ}
 use Rattle.tables.specs.Size.{isSize}
 use Rattle.answers.specs.Order.{Passes, whole, never}
 use Rattle.answers.specs.declared.Fault.{Fault}
-use Rattle.answers.specs.declared.Fault.the-variants.{None}
+use Rattle.answers.specs.declared.Fault.the-variants.{Breaks, None}
 use Rattle.limits.specs.Rules.{in-limits}
 use Rattle.limits.specs.InOrder.{InOrder}
 use Rattle.edges.specs.Index.{Indexed}
 use Rattle.pair.specs.Pair.{Paired, pair-none}
-use Rattle.pair.specs.Across.{Crossed}
 use Rattle.bridge.specs.Lower.{all-sound}
 use Rattle.flat.specs.Facet.{Measured}
 use Rattle.stages.specs.Rules.{rulesToTurn}
@@ -21,7 +20,7 @@ pub measured : {points : List ℤ} {corners begins : List ℕ} → InOrder point
 measured {points} o = record { ranged = in-limits points (o .ranges); sound = all-sound points (o .sizes) (o .numbers) }
 
 -- of tables that pass the first n rules
-module _ {points : List ℤ} {corners begins : List ℕ} {n : ℕ} (P : Passes (rulesToTurn points corners begins) n) where
+module _ (points : List ℤ) (corners begins : List ℕ) {n : ℕ} (P : Passes (rulesToTurn points corners begins) n) where
   pub after-3 : 3 ≤ n → InOrder points corners begins
   after-3 l = record {
     sizes = never (whole (isSize points corners begins)) (P .none 0 (omega arith));
@@ -38,3 +37,12 @@ module _ {points : List ℤ} {corners begins : List ℕ} {n : ℕ} (P : Passes (
 -- the index that is handed out where no rule is broken
 pub record HandsOut (fault : Fault) (corners begins : List ℕ) (edges : List (List ℕ)) (heads : List ℕ) : Type 0 where
   pub indexed : fault ≡ None → Indexed corners begins edges heads
+
+-- a rule that is broken hands out nothing
+pub hands-none : {number first second : ℕ} {corners begins : List ℕ} {edges : List (List ℕ)} {heads : List ℕ}
+    → HandsOut (Breaks number first second) corners begins edges heads
+hands-none = record { indexed = λ e. let z : _≡_ {A = ℕ} 0 1 = cc in absurd (omega arith) }
+
+pub hands-out : {fault : Fault} {corners begins : List ℕ} {edges : List (List ℕ)} {heads : List ℕ} → Indexed corners begins edges heads
+    → HandsOut fault corners begins edges heads
+hands-out I = record { indexed = λ e. I }
