@@ -1,15 +1,43 @@
 -- The lent tables while facets are stored into them: each begins with what the records so far hold. Assumes nothing.
-use mathlib.Core.Path.{_≡_, sym, ap, _∙_}
+use mathlib.Core.Path.{_≡_, refl, sym, ap, _∙_}
 use mathlib.Core.List.{List, [], _∷_}
 use Prim.Native.Nat.{ℕ, _+_, _*_, _≤_, _<_}
 use native.Mathlib.Omega.{arith}
-use lib.ListN.{length, getD, take, set}
-use lib.Seq.{sets}
+use native.Mathlib.Numerals.{add-one}
+use lib.ListN.{length, getD, take, set, length-set}
+use lib.Seq.{sets, take-suc, length-take-le}
 use Rattle.tables.specs.Tables.{mostFacets, mostCorners, mostSides}
+use Rattle.whole.specs.Stores.{sets-append}
 use Rattle.whole.specs.Joined.{joined-0, joined-more, length-listed}
 use Rattle.whole.specs.Over.{Wrote, wrote, wrote-none, stored, over, take-over}
 use Rattle.tape.specs.Reading.{place, numbersAt, facetFrom, cornersAt, beginsAt}
 use Rattle.tape.specs.Whole.{Facets, place-0, place-more, corners-more, length-from, facet-inside, facet-short}
+
+-- ---- the first n numbers of a tray, stored from c on
+
+pub record StoreTurn (tray : List ℕ) (c n : ℕ) (old new : List ℕ) (k : ℕ) : Type 0 where
+  pub upto : k ≤ n
+  pub long : length new ≡ length old
+  pub so-far : new ≡ sets old c (take k tray)
+
+pub store-0 : (tray : List ℕ) (c n : ℕ) (old : List ℕ) → StoreTurn tray c n old old 0
+store-0 tray c n old = record { upto = omega arith; long = refl; so-far = refl }
+
+pub store-more : {tray old new : List ℕ} {c n k : ℕ} → StoreTurn tray c n old new k → n ≤ length tray → k < n
+    → StoreTurn tray c n old (set new (c + k) (getD tray k 0)) (k + 1)
+store-more {tray} {old} {new} {c} {n} {k} t h l =
+    let b : k < length tray = omega arith in
+    let m : length (take k tray) ≡ k = length-take-le k tray (omega arith) in
+    record {
+      upto = omega arith;
+      long = simp length-set (t .long);
+      so-far = rw (add-one, take-suc tray k 0 b, sets-append (take k tray) (getD tray k 0 ∷ []) old c, m, ← t .so-far);
+    }
+
+pub store-all : {tray old new : List ℕ} {c n k : ℕ} → StoreTurn tray c n old new k → n ≤ k → new ≡ sets old c (take n tray)
+store-all {tray} {old} {new} {c} {n} {k} t l = let e : k ≡ n = omega (arith, t .upto) in rw e at (t .so-far)
+
+-- ---- facets
 
 -- what is asked: n facets' records stand from `from` on, and the tables have room
 pub record Fillable (s : List ℕ) (from n : ℕ) (corners begins : List ℕ) : Type 0 where

@@ -10,10 +10,13 @@ use Rattle.tables.specs.Tables.{mostSides, facets, begin, sides, facetOf}
 use Rattle.tables.specs.Size.{Laid}
 use Rattle.tables.specs.Places.{end-in-run, sides-few, sides-some, part-length}
 use Rattle.whole.specs.Over.{over, window, back}
-use Rattle.tape.specs.Records.{bytes, facet, pointOf, Fits16, divided, length-packed, length-points, length-facets}
+use Rattle.tape.specs.Records.{bytes, facet, pointOf, pointBytes, facetBytes, Fits16, divided, length-packed, length-points, length-facets}
 use Rattle.tape.specs.Turns.{Turn, turn-0, turn-handed}
 
 -- ---- points
+
+abbrev pub allPoints : List ℤ → List ℕ
+allPoints points = pointBytes points (vertices points)
 
 pub record PutsPoints (points : List ℤ) (buffer : List ℕ) : Type 0 where
   pub placed : Fits16 points
@@ -34,6 +37,9 @@ point-more {points} {old} {new} {rest} {v} t l e = record {
 }
 
 -- ---- facets
+
+abbrev pub allFacets : List ℕ → List ℕ → List ℕ
+allFacets corners begins = facetBytes corners begins (facets begins)
 
 pub record PutsFacets (corners begins buffer : List ℕ) : Type 0 where
   pub laid : Laid corners begins

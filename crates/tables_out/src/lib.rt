@@ -1,15 +1,12 @@
 // The records of all points and of all facets of the lent tables, written over the beginning of a buffer.
 ghost use mathlib.Core.Path.{_≡_};
-ghost use Rattle.points.specs.Points.{vertices};
-ghost use Rattle.tables.specs.Tables.{facets};
 ghost use Rattle.whole.specs.Over.{over};
-ghost use Rattle.tape.specs.Records.{pointBytes, facetBytes};
-ghost use Rattle.tables_out.specs.Records.{PutsPoints, PutsFacets};
+ghost use Rattle.tables_out.specs.Records.{allPoints, PutsPoints, allFacets, PutsFacets};
 
 // The records of all points, each at the beginning of the rest that the one before it left.
 pub fn put_points(buffer: &mut [u8], points: &[i32])
     requires { ⌜ PutsPoints (now points) (now buffer) ⌝ }
-    ensures { λ _. ⌜ now (buffer .exit) ≡ over (pointBytes (now (points .entry)) (vertices (now (points .entry)))) (now (buffer .entry)) ⌝ }
+    ensures { λ _. ⌜ now (buffer .exit) ≡ over (allPoints (now (points .entry))) (now (buffer .entry)) ⌝ }
 {
     let n = points.len() / 3;
     let mut v = 0;
@@ -25,7 +22,7 @@ pub fn put_points(buffer: &mut [u8], points: &[i32])
 // The records of all facets, likewise.
 pub fn put_facets(buffer: &mut [u8], corners: &[u16], begins: &[u16])
     requires { ⌜ PutsFacets (now corners) (now begins) (now buffer) ⌝ }
-    ensures { λ _. ⌜ now (buffer .exit) ≡ over (facetBytes (now (corners .entry)) (now (begins .entry)) (facets (now (begins .entry)))) (now (buffer .entry)) ⌝ }
+    ensures { λ _. ⌜ now (buffer .exit) ≡ over (allFacets (now (corners .entry)) (now (begins .entry))) (now (buffer .entry)) ⌝ }
 {
     let n = begins.len() - 1;
     let mut at = 0;

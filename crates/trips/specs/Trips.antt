@@ -86,18 +86,26 @@ module _ (tape : List ℕ) (points : List ℤ) (corners begins : List ℕ) where
       let p = pointsAt tape 0 (a .v) in
       let c = cornersAt tape (7 * a .v) (a .f) in
       let g = beginsAt tape (7 * a .v) (a .f + 1) in
-      rw (a .is, take-over p points (a .v * 3) (length-points-at tape 0 (a .v)), take-over c corners (a .c) (w .corners), take-over g begins (a .f + 1) (length-listed _ (a .f + 1)))
+      rw (
+        a .is,
+        take-over p points (a .v * 3) (length-points-at tape 0 (a .v)),
+        take-over c corners (a .c) (w .corners),
+        take-over g begins (a .f + 1) (length-listed _ (a .f + 1)),
+      )
       (read-taped b (a .read))
 
   -- "Each refusal .. alters no byte of what was lent"
-  pub refused-unchanged : (answerNumber (reading tape points corners begins) ≡ 0 → ⊥)
-      → (pointsAfter tape points corners begins ≡ points) × (cornersAfter tape points corners begins ≡ corners) × (beginsAfter tape points corners begins ≡ begins)
+  pub record Unchanged : Type 0 where
+    pub same-points : pointsAfter tape points corners begins ≡ points
+    pub same-corners : cornersAfter tape points corners begins ≡ corners
+    pub same-begins : beginsAfter tape points corners begins ≡ begins
+
+  pub refused-unchanged : (answerNumber (reading tape points corners begins) ≡ 0 → ⊥) → Unchanged
   refused-unchanged n = go (reading tape points corners begins) refl
     where
-      go : (o : Reading) → reading tape points corners begins ≡ o
-          → (pointsAfter tape points corners begins ≡ points) × (cornersAfter tape points corners begins ≡ corners) × (beginsAfter tape points corners begins ≡ begins)
+      go : (o : Reading) → reading tape points corners begins ≡ o → Unchanged
       go (Read v f c) e = absurd (n (ap answerNumber e))
-      go (Refused number offset) e = rw e (refl, refl, refl)
+      go (Refused number offset) e = record { same-points = rw e; same-corners = rw e; same-begins = rw e }
 
 pub refused-unwritten : (points : List ℤ) (corners begins buffer : List ℕ) → (written points corners begins buffer .number ≡ 0 → ⊥)
     → bufferAfter points corners begins buffer ≡ buffer
@@ -109,8 +117,10 @@ module _ {points : List ℤ} {corners begins : List ℕ} (o : InOrder points cor
   threes : length points ≡ vertices points * 3
   unfolding isSize
   threes =
-      let rest = ltb (length points / 3) leastVertices || (ltb mostVertices (length points / 3) || (ltb (length begins) (leastFacets + 1) || (ltb (mostFacets + 1) (length begins) || ltb mostCorners (length corners)))) in
-      let a = neither (wrongLengths (length points) (length corners) (length begins)) (wrongEnds corners begins || anyBelow (wrongSides begins) (facets begins)) (o .sizes) in
+      let begun = ltb (length begins) (leastFacets + 1) || (ltb (mostFacets + 1) (length begins) || ltb mostCorners (length corners)) in
+      let rest = ltb (length points / 3) leastVertices || (ltb mostVertices (length points / 3) || begun) in
+      let uneven = wrongEnds corners begins || anyBelow (wrongSides begins) (facets begins) in
+      let a = neither (wrongLengths (length points) (length corners) (length begins)) uneven (o .sizes) in
       let b = neither (not (eqb (length points % 3) 0)) rest (a .0) in
       let e = eqb-true (length points % 3) 0 (not-false (eqb (length points % 3) 0) (b .0)) in
       omega (arith, div-add-mod' (length points) 3)
@@ -150,12 +160,13 @@ pub record SameBytes (s : List ℕ) (points : List ℤ) (corners begins buffer :
 taped-written : {s : List ℕ} {points : List ℤ} {corners begins : List ℕ} → Taped s points corners begins → InOrder points corners begins
     → (buffer : List ℕ) → length s ≤ length buffer → SameBytes s points corners begins buffer
 taped-written {s} {points} {corners} {begins} t o buffer h =
-    let room : length (tape points corners begins) ≤ length buffer = rw (t .same) at h in
+    let bytes = tape points corners begins in
+    let room : length bytes ≤ length buffer = rw (t .same) at h in
     rw (t .same)
     (record {
       answer = answer-written o buffer room;
       left = buffer-written o buffer room;
-      same = rw (buffer-written o buffer room, answer-written o buffer room) (take-over (tape points corners begins) buffer (length (tape points corners begins)) refl);
+      same = rw (buffer-written o buffer room, answer-written o buffer room) (take-over bytes buffer (length bytes) refl);
     })
 
 pub read-then-written : (s : List ℕ) (points : List ℤ) (corners begins buffer : List ℕ) → Bytes s → answerNumber (reading s points corners begins) ≡ 0
@@ -192,9 +203,11 @@ holds-read {points} {corners} {begins} h p c b room =
       same-begins = rw (out, begins-are h) (take-over begins b (facets begins + 1) last);
     }
 
-pub written-then-read : (points : List ℤ) (corners begins buffer : List ℕ) (lentPoints : List ℤ) (lentCorners lentBegins : List ℕ) → InOrder points corners begins
-    → length (tape points corners begins) ≤ length buffer → noRoom (length lentPoints) (length lentCorners) (length lentBegins) ≡ false
-    → SameTables (take (written points corners begins buffer .first) (bufferAfter points corners begins buffer)) points corners begins lentPoints lentCorners lentBegins
+pub written-then-read : (points : List ℤ) (corners begins buffer : List ℕ) (lentPoints : List ℤ) (lentCorners lentBegins : List ℕ)
+    → InOrder points corners begins → length (tape points corners begins) ≤ length buffer
+    → noRoom (length lentPoints) (length lentCorners) (length lentBegins) ≡ false
+    → SameTables (take (written points corners begins buffer .first) (bufferAfter points corners begins buffer)) points corners begins
+    lentPoints lentCorners lentBegins
 written-then-read points corners begins buffer p c b o room lent =
     let h = in-order-holds o in
     rw (taped-written (record { holds = h; same = refl }) o buffer room .same) (holds-read h p c b lent)

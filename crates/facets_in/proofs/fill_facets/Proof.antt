@@ -36,7 +36,9 @@ module _ (c : tie.After-gather Inv-loop μ-loop) where
   full = let r = here turn in trayed (s turn) _ _ (c .gather .ensures) (l turn .loop .inv .twelve) (r .narrow)
 
 abbrev gathered : tie.After-slice-known3 Inv-loop μ-loop → tie.After-gather Inv-loop μ-loop
-gathered c = let t = c .before .before .before in t .before .before .before
+gathered c =
+    let t = c .before .before .before in
+    t .before .before .before
 
 abbrev turned : tie.After-slice-known3 Inv-loop μ-loop → tie.In-loop Inv-loop μ-loop
 turned c = turn (gathered c)
