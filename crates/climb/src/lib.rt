@@ -31,10 +31,8 @@ fn highest(
     let mut q = index::head_at(heads, tables::wide(best.vertex));
     while 0 < q {
         let p = q - 1;
-        best = height::better(
-            best,
-            height::Spot::at(points, direction, index::end_at(edges, p)),
-        );
+        let next = height::Spot::at(points, direction, index::end_at(edges, p));
+        best = height::better(best, next);
         q = index::back_at(edges, p);
     }
     best
@@ -92,8 +90,9 @@ impl Standing {
         requires { ⌜ Climbs (now points) (now corners) (now begins) (now edges) (now heads) self (now trail) ⌝ }
         ensures { λ r. ⌜ Climbed (now (points .entry)) (now (corners .entry)) (now (begins .entry)) self (now (trail .entry)) r (now (trail .exit)) ⌝ }
     {
-        let start = self.spot;
-        trail[0] = start.vertex;
+        let spot = self.spot;
+        let start = spot.vertex;
+        trail[0] = start;
         let mut here = self;
         let mut next = here.step(points, corners, begins, edges, heads);
         while here.moves < next.moves {

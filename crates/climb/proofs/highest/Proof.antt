@@ -13,6 +13,9 @@ Inv-loop points corners begins edges heads direction best₀ q₀ best q = Searc
 abbrev μ-loop : tie.MeasureT-loop
 μ-loop points corners begins edges heads direction best₀ q₀ best q = q
 
+at-requires : tie.Need-at-requires Inv-loop μ-loop
+at-requires c κs = end-spot (c .before .before .loop .inv) (omega arith) (search needs)
+
 head-at-requires : tie.Need-head-at-requires Inv-loop μ-loop
 head-at-requires c κs =
     let s = c .before .before .before in
@@ -47,7 +50,7 @@ highest-spec =
     loop-holds
     (λ c. search needs)
     (λ c κs. place-small (c .before .loop .inv) (omega arith))
-    (λ c κs. end-spot (c .before .before .loop .inv) (omega arith) (c .end-at .ensures))
+    at-requires
     (λ c κs. search needs)
     (λ c κs. place-small (c .before .before .before .before .loop .inv) (omega arith))
     loop-less

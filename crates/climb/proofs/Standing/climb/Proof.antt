@@ -9,11 +9,11 @@ use Rattle.climb.proofs.Standing.climb.Statement.{statement}
 use Rattle.climb.proofs.Standing.climb.Tie as tie
 
 abbrev Inv-loop : tie.InvT-loop
-Inv-loop points corners begins edges heads trail₀ here₀ next₀ trail here next =
+Inv-loop points corners begins edges heads trail₀ start here₀ next₀ trail here next =
     Climbing points corners begins edges heads here₀ trail₀ trail here next (here .moves)
 
 abbrev μ-loop : tie.MeasureT-loop
-μ-loop points corners begins edges heads trail₀ here₀ next₀ trail here next = vertices points - here .moves
+μ-loop points corners begins edges heads trail₀ start here₀ next₀ trail here next = vertices points - here .moves
 
 loop-holds : tie.Need-loop-holds Inv-loop μ-loop
 loop-holds c =
