@@ -12,7 +12,7 @@ module _ (points : List ℤ) (corners begins : List ℕ) (d : Direction) (start 
   -- "each move takes the walk as it stands and hands the next one back": the walk after n steps, which stays as it is once it has stopped
   unfoldable pub after : ℕ → Standing
   after zero = begin points d start
-  after (suc n) = step points corners begins d (after n)
+  after (suc n) = step points corners begins (after n)
 
   -- no walk makes as many moves as there are vertices: after V steps it has stopped
   abbrev pub finish : Standing

@@ -15,7 +15,7 @@ use Rattle.whole.specs.Count.{countBelow, count-le, count-less}
 use Rattle.points.specs.Points.{vertices, Vertex}
 use Rattle.height.specs.Height.{height, Placed}
 use Rattle.climb.specs.Step.{isNeighbour, isHigher, moveTo, step}
-use Rattle.climb.specs.Stepped.{Chosen, moved, stayed, stepped}
+use Rattle.climb.specs.Stepped.{Chosen, Stepped, moved, stayed, stepped, step-direction}
 use Rattle.climb.specs.Course.{after, finish, stood}
 use Rattle.direction.specs.declared.Direction.{Direction}
 use Rattle.climb.specs.declared.Standing.{Standing}
@@ -34,17 +34,28 @@ module _ (points : List ℤ) (d : Direction) where
   rank-few : {v : ℕ} → Vertex points v → rank v < vertices points
   unfolding rank
   rank-few {v} l =
-      omega (arith, count-less (λ u. isHigher points d u v) (λ u. true) (vertices points) v (λ p k e. refl) l (not-above-itself v) refl, count-le (λ u. true) (vertices points))
+      let n = vertices points in
+      omega (arith, count-less (λ u. isHigher points d u v) (λ u. true) n v (λ p k e. refl) l (not-above-itself v) refl, count-le (λ u. true) n)
 
   rank-falls : (v : ℕ) {u : ℕ} → Vertex points u → h v <ℤ h u → rank u < rank v
   unfolding rank
   rank-falls v {u} l up =
-      count-less (λ w. isHigher points d w u) (λ w. isHigher points d w v) (vertices points) u (λ p k e. true-ltZ (<-trans (h v) (h u) (h p) up (ltZ-true _ _ e))) l
-      (not-above-itself u) (true-ltZ up)
+      count-less (λ w. isHigher points d w u) (λ w. isHigher points d w v) (vertices points) u
+      (λ p k e. true-ltZ (<-trans (h v) (h u) (h p) up (ltZ-true _ _ e))) l (not-above-itself u) (true-ltZ up)
 
 module _ (points : List ℤ) (corners begins : List ℕ) (d : Direction) (start : ℕ) where
   abbrev walk : ℕ → Standing
   walk = after points corners begins d start
+
+  pub same-direction : (k : ℕ) → walk k .direction ≡ d
+  unfolding after
+  same-direction zero = refl
+  same-direction (suc k) = step-direction points corners begins (walk k) ∙ same-direction k
+
+  -- what step k does
+  pub by-step : (k : ℕ) → Stepped points corners begins d (walk k) (walk (suc k))
+  unfolding after
+  by-step k = rw (same-direction k) at (stepped points corners begins (walk k))
 
   -- it moved at each of k steps
   pub record Going (k : ℕ) : Type 0 where
@@ -57,10 +68,10 @@ module _ (points : List ℤ) (corners begins : List ℕ) (d : Direction) (start 
   going-0 l = record { moves = refl; placed = record { vertex = l; high = refl }; left = omega (arith, rank-few points d l) }
 
   pub going-more : {k u : ℕ} → Going k → Vertex points u → height points d (walk k .spot .vertex) <ℤ height points d u
-      → walk (suc k) ≡ moveTo points corners begins d u (walk k) → Going (suc k)
+      → walk (suc k) ≡ moveTo points u (walk k) → Going (suc k)
   going-more {k} {u} G l up e = record {
     moves = rw e (omega (arith, G .moves));
-    placed = rw e (record { vertex = l; high = refl });
+    placed = rw (e, same-direction k) (record { vertex = l; high = refl });
     left = rw e (omega (arith, G .left, rank-falls points d (walk k .spot .vertex) l up));
   }
 
@@ -68,7 +79,7 @@ module _ (points : List ℤ) (corners begins : List ℕ) (d : Direction) (start 
   still : (k : ℕ) → walk (suc k) ≡ walk k → (n : ℕ) → walk (k + n) ≡ walk k
   unfolding after
   still k e zero = rw add-zero
-  still k e (suc n) = rw add-suc (ap (step points corners begins d) (still k e n) ∙ e)
+  still k e (suc n) = rw add-suc (ap (step points corners begins) (still k e n) ∙ e)
 
   pub stopped : {k : ℕ} → Going k → walk (suc k) ≡ walk k → walk (vertices points) ≡ walk k
   stopped {k} G e =
@@ -87,7 +98,8 @@ module _ (points : List ℤ) (corners begins : List ℕ) (d : Direction) (start 
     pub going : Going k
     pub moves : (i : ℕ) → i < k → Moves i
     pub last : finish points corners begins d start ≡ walk k
-    pub stuck : (w : ℕ) → Vertex points w → isNeighbour corners begins (walk k .spot .vertex) w ≡ true → height points d w ≤ℤ height points d (walk k .spot .vertex)
+    pub stuck : (w : ℕ) → Vertex points w → isNeighbour corners begins (walk k .spot .vertex) w ≡ true
+        → height points d w ≤ℤ height points d (walk k .spot .vertex)
 
   pub ends : Vertex points start → (k : ℕ) × Ends k
   unfolding after
@@ -95,7 +107,7 @@ module _ (points : List ℤ) (corners begins : List ℕ) (d : Direction) (start 
     where
       go : (fuel k : ℕ) → Going k → vertices points ≤ k + fuel → ((i : ℕ) → i < k → Moves i) → (k : ℕ) × Ends k
       go zero k G b M = absurd (omega (arith, G .left))
-      go (suc fuel) k G b M = elim (stepped points corners begins d (walk k)) [
+      go (suc fuel) k G b M = elim (by-step k) [
         | moved u v c up e ↦ go fuel (suc k) (going-more G v up e) (omega arith) (λ i m. elim (ℕ-discrete i k) [
           | yes z ↦ rw z (record { chosen = rw e c; up = rw e up })
           | no z ↦ M i (omega arith)
@@ -111,7 +123,8 @@ module _ (points : List ℤ) (corners begins : List ℕ) (d : Direction) (start 
   stood-length (suc n) = rw length-append (omega (arith, stood-length n))
 
   pub trail-more : {k : ℕ} (trail : List ℕ) → k < length trail
-      → set (stood points corners begins d start k ++ drop k trail) k (walk k .spot .vertex) ≡ stood points corners begins d start (suc k) ++ drop (suc k) trail
+      → set (stood points corners begins d start k ++ drop k trail) k (walk k .spot .vertex)
+      ≡ stood points corners begins d start (suc k) ++ drop (suc k) trail
   unfolding stood
   trail-more {k} trail l =
       let xs = stood points corners begins d start k in

@@ -22,20 +22,20 @@ isHigher points d u v = ltZ (height points d v) (height points d u)
 
 -- the walk where it begins
 abbrev pub begin : List ℤ → Direction → ℕ → Standing
-begin points d start = record { spot = spot points d start; moves = 0 }
+begin points d start = record { direction = d; spot = spot points d start; moves = 0 }
 
-module _ (points : List ℤ) (corners begins : List ℕ) (d : Direction) where
+abbrev pub moveTo : List ℤ → ℕ → Standing → Standing
+moveTo points u s = record { direction = s .direction; spot = spot points (s .direction) u; moves = s .moves + 1 }
+
+-- "If it is strictly higher, move there; otherwise stop."
+abbrev pub moveUp : List ℤ → ℕ → Standing → Standing
+moveUp points u s = cond (isHigher points (s .direction) u (s .spot .vertex)) (moveTo points u s) s
+
+module _ (points : List ℤ) (corners begins : List ℕ) where
   -- u is a neighbour of v, and no neighbour of v is higher
-  abbrev pub isHighest : ℕ → ℕ → Bool
-  isHighest v u = isNeighbour corners begins v u && not (anyBelow (λ w. isNeighbour corners begins v w && isHigher points d w u) (vertices points))
-
-  abbrev pub moveTo : ℕ → Standing → Standing
-  moveTo u s = record { spot = spot points d u; moves = s .moves + 1 }
-
-  -- "If it is strictly higher, move there; otherwise stop."
-  abbrev pub moveUp : ℕ → Standing → Standing
-  moveUp u s = cond (isHigher points d u (s .spot .vertex)) (moveTo u s) s
+  abbrev pub isHighest : Direction → ℕ → ℕ → Bool
+  isHighest d v u = isNeighbour corners begins v u && not (anyBelow (λ w. isNeighbour corners begins v w && isHigher points d w u) (vertices points))
 
   -- "From the present vertex, take the highest neighbour, the lowest number among equals."
   unfoldable pub step : Standing → Standing
-  step s = pickBelow (isHighest (s .spot .vertex)) (vertices points) (λ u. moveUp u s) s
+  step s = pickBelow (isHighest (s .direction) (s .spot .vertex)) (vertices points) (λ u. moveUp points u s) s

@@ -18,10 +18,9 @@ use Rattle.points.specs.Points.{vertices, Vertex}
 use Rattle.tables.specs.Tables.{from, to}
 use Rattle.edges.specs.Chains.{leaves}
 use Rattle.edges.specs.Edge.{isEdge}
-use Rattle.height.specs.Height.{height, placed-is}
+use Rattle.height.specs.Height.{height, Placed, placed-is}
 use Rattle.climb.specs.Step.{isNeighbour, isHigher, isHighest, moveTo, moveUp, step}
 use Rattle.climb.specs.Best.{Beats, higher, level, Best}
-use Rattle.climb.specs.Ready.{Stands}
 use Rattle.direction.specs.declared.Direction.{Direction}
 use Rattle.climb.specs.declared.Standing.{Standing}
 use Rattle.height.specs.declared.Spot.{Spot}
@@ -51,8 +50,14 @@ greatest f h (suc n) = go (f n) refl (greatest f h n)
   where
     go : (t : Bool) → f n ≡ t → Greatest f h n → Greatest f h (suc n)
     go false e (nowhere none) = nowhere (λ w l. elim (ℕ-discrete w n) [ yes z ↦ rw z e | no z ↦ none w (omega arith) ])
-    go false e (at u l k top) = at u (omega arith) k (λ w m x. elim (ℕ-discrete w n) [ yes z ↦ absurd (true≢false (sym x ∙ ap f z ∙ e)) | no z ↦ top w (omega arith) x ])
-    go true e (nowhere none) = at n (omega arith) e (λ w m x. elim (ℕ-discrete w n) [ yes z ↦ eq→le (ap h z) | no z ↦ absurd (true≢false (sym x ∙ none w (omega arith))) ])
+    go false e (at u l k top) = at u (omega arith) k (λ w m x. elim (ℕ-discrete w n) [
+      | yes z ↦ absurd (true≢false (sym x ∙ ap f z ∙ e))
+      | no z ↦ top w (omega arith) x
+    ])
+    go true e (nowhere none) = at n (omega arith) e (λ w m x. elim (ℕ-discrete w n) [
+      | yes z ↦ eq→le (ap h z)
+      | no z ↦ absurd (true≢false (sym x ∙ none w (omega arith)))
+    ])
     go true e (at u l k top) = elim (le-or-lt (h n) (h u)) [
       | inl y ↦ at u (omega arith) k (λ w m x. elim (ℕ-discrete w n) [ yes z ↦ rw z y | no z ↦ top w (omega arith) x ])
       | inr y ↦ at n (omega arith) e (λ w m x. elim (ℕ-discrete w n) [ yes z ↦ eq→le (ap h z) | no z ↦ ≤-trans _ _ _ (top w (omega arith) x) (lt→le y) ])
@@ -96,63 +101,90 @@ module _ (points : List ℤ) (corners begins : List ℕ) (d : Direction) where
         top = λ w l m. ltZ-false _ _ (rw m at (any-false (above v u) (vertices points) (not-true _ k) w l));
       }
 
-  -- ---- the step, where the search along the chain found the best of a vertex and its neighbours
+module _ (points : List ℤ) (corners begins : List ℕ) (s : Standing) where
+  abbrev d : Direction
+  d = s .direction
 
-  module _ {s : Standing} {b : Spot} (A : Stands points d s) (B : Best points corners begins d (s .spot .vertex) 0 b) where
-    beaten : (w : ℕ) → near (s .spot .vertex) w ≡ true → Beats h (b .vertex) w
-    beaten w e = let j = joined corners begins (s .spot .vertex) w e in rw (j .ends) at (B .passed (j .place) (omega arith) (j .below) (j .leaves))
+  abbrev v : ℕ
+  v = s .spot .vertex
 
-    not-higher : (w : ℕ) → near (s .spot .vertex) w ≡ true → h w ≤ℤ h (b .vertex)
+  abbrev tall : ℕ → ℤ
+  tall = height points d
+
+  abbrev isTop : ℕ → Bool
+  isTop = isHighest points corners begins d v
+
+  abbrev joins : ℕ → Bool
+  joins = isNeighbour corners begins v
+
+  -- ---- the step, where the search along the chain found the best of the present vertex and its neighbours
+
+  module _ {b : Spot} (A : Placed points d (s .spot)) (B : Best points corners begins d v 0 b) where
+    beaten : (w : ℕ) → joins w ≡ true → Beats tall (b .vertex) w
+    beaten w e = let j = joined corners begins v w e in rw (j .ends) at (B .passed (j .place) (omega arith) (j .below) (j .leaves))
+
+    not-higher : (w : ℕ) → joins w ≡ true → tall w ≤ℤ tall (b .vertex)
     not-higher w e = elim (beaten w e) [ higher l ↦ lt→le l | level z l ↦ eq→le z ]
 
-    pub best-moves : ltZ (s .spot .height) (b .height) ≡ true → record { spot = b; moves = s .moves + 1 } ≡ step points corners begins d s
+    pub best-moves : ltZ (s .spot .height) (b .height) ≡ true → record { direction = d; spot = b; moves = s .moves + 1 } ≡ step points corners begins s
     unfolding step
     best-moves e =
-        rw (placed-is (B .placed)) (rw (true-ltZ l) at (hit (λ u. moveUp points corners begins d u s) s (none-all _ (b .vertex) lowest) (highest-is best) (B .placed .vertex)))
+        rw (placed-is (B .placed)) (rw (true-ltZ l) at (hit (λ u. moveUp points u s) s (none-all _ (b .vertex) lowest) found (B .placed .vertex)))
       where
-        l : h (s .spot .vertex) <ℤ h (b .vertex)
-        l = ltZ-true _ _ (rw (A .placed .high, B .placed .high) at e)
+        l : tall v <ℤ tall (b .vertex)
+        l = ltZ-true _ _ (rw (A .high, B .placed .high) at e)
 
-        best : Highest (s .spot .vertex) (b .vertex)
+        best : Highest points corners begins d v (b .vertex)
         best = record {
-          neighbour = elim (B .joined) [ inl e ↦ absurd (clash l (eq→le (ap h e))) | inr e ↦ e ];
+          neighbour = elim (B .joined) [ inl e ↦ absurd (clash l (eq→le (ap tall e))) | inr e ↦ e ];
           top = λ w k. not-higher w;
         }
 
-        lowest : (k : ℕ) → k < b .vertex → isHighest points corners begins d (s .spot .vertex) k ≡ false
+        found : isTop (b .vertex) ≡ true
+        found = highest-is points corners begins d best
+
+        lowest : (k : ℕ) → k < b .vertex → isTop k ≡ false
         lowest k m = is-false _ (λ e.
-            let H = is-highest (s .spot .vertex) k e in
+            let H = is-highest points corners begins d v k e in
             elim (beaten k (H .neighbour)) [
               | higher x ↦ clash x (H .top (b .vertex) (B .placed .vertex) (best .neighbour))
               | level x y ↦ omega arith
             ])
 
-    pub best-stays : ltZ (s .spot .height) (b .height) ≡ false → s ≡ step points corners begins d s
+    pub best-stays : ltZ (s .spot .height) (b .height) ≡ false → s ≡ step points corners begins s
     unfolding step
-    best-stays i = go (anyBelow (isHighest points corners begins d (s .spot .vertex)) (vertices points)) refl
+    best-stays i = go (anyBelow isTop (vertices points)) refl
       where
         u : ℕ
-        u = firstBelow (isHighest points corners begins d (s .spot .vertex)) (vertices points)
+        u = firstBelow isTop (vertices points)
 
-        go : (t : Bool) → anyBelow (isHighest points corners begins d (s .spot .vertex)) (vertices points) ≡ t
-            → s ≡ cond t (moveUp points corners begins d u s) s
+        go : (t : Bool) → anyBelow isTop (vertices points) ≡ t → s ≡ cond t (moveUp points u s) s
         go true e =
-            let H = is-highest (s .spot .vertex) u (first-holds _ (vertices points) (ltb-true _ _ e)) in
-            rw (false-ltZ (≤-trans _ _ _ (not-higher u (H .neighbour)) (ltZ-false _ _ (rw (A .placed .high, B .placed .high) at i))))
+            let H = is-highest points corners begins d v u (first-holds _ (vertices points) (ltb-true _ _ e)) in
+            rw (false-ltZ (≤-trans _ _ _ (not-higher u (H .neighbour)) (ltZ-false _ _ (rw (A .high, B .placed .high) at i))))
         go false e = refl
 
-  -- ---- what a step does, in words
+-- ---- what a step does, in words
 
-  pub data Stepped (s : Standing) (r : Standing) : Type 0 where
-    moved : (u : ℕ) → Vertex points u → Chosen (s .spot .vertex) u → h (s .spot .vertex) <ℤ h u → r ≡ moveTo points corners begins d u s → Stepped s r
-    stayed : ((w : ℕ) → Vertex points w → near (s .spot .vertex) w ≡ true → h w ≤ℤ h (s .spot .vertex)) → r ≡ s → Stepped s r
+pub data Stepped (points : List ℤ) (corners begins : List ℕ) (d : Direction) (s r : Standing) : Type 0 where
+  moved : (u : ℕ) → Vertex points u → Chosen points corners begins d (s .spot .vertex) u → height points d (s .spot .vertex) <ℤ height points d u
+      → r ≡ moveTo points u s → Stepped points corners begins d s r
+  stayed : ((w : ℕ) → Vertex points w → isNeighbour corners begins (s .spot .vertex) w ≡ true → height points d w ≤ℤ height points d (s .spot .vertex))
+      → r ≡ s → Stepped points corners begins d s r
 
-  pub stepped : (s : Standing) → Stepped s (step points corners begins d s)
+module _ (points : List ℤ) (corners begins : List ℕ) where
+  pub stepped : (s : Standing) → Stepped points corners begins (s .direction) s (step points corners begins s)
   unfolding step
   stepped s = go (anyBelow f n) refl
     where
+      d : Direction
+      d = s .direction
+
+      v : ℕ
+      v = s .spot .vertex
+
       f : ℕ → Bool
-      f = isHighest points corners begins d (s .spot .vertex)
+      f = isHighest points corners begins d v
 
       n : ℕ
       n = vertices points
@@ -160,18 +192,23 @@ module _ (points : List ℤ) (corners begins : List ℕ) (d : Direction) where
       u : ℕ
       u = firstBelow f n
 
-      pick : (t : Bool) → isHigher points d u (s .spot .vertex) ≡ t → Vertex points u → Chosen (s .spot .vertex) u → Stepped s (cond t (moveTo points corners begins d u s) s)
+      pick : (t : Bool) → isHigher points d u v ≡ t → Vertex points u → Chosen points corners begins d v u
+          → Stepped points corners begins d s (cond t (moveTo points u s) s)
       pick true e l C = moved u l C (ltZ-true _ _ e) refl
       pick false e l C = stayed (λ w k m. ≤-trans _ _ _ (C .highest .top w k m) (ltZ-false _ _ e)) refl
 
-      go : (t : Bool) → anyBelow f n ≡ t → Stepped s (cond t (moveUp points corners begins d u s) s)
+      go : (t : Bool) → anyBelow f n ≡ t → Stepped points corners begins d s (cond t (moveUp points u s) s)
       go true e =
           let l = ltb-true u n e in
-          pick (isHigher points d u (s .spot .vertex)) refl l (record {
-            highest = is-highest (s .spot .vertex) u (first-holds f n l);
-            lowest = λ k b H. true≢false (sym (highest-is H) ∙ before-first f n k b);
+          pick (isHigher points d u v) refl l (record {
+            highest = is-highest points corners begins d v u (first-holds f n l);
+            lowest = λ k b H. true≢false (sym (highest-is points corners begins d H) ∙ before-first f n k b);
           })
-      go false e = stayed (λ w k m. elim (greatest (near (s .spot .vertex)) h n) [
+      go false e = stayed (λ w k m. elim (greatest (isNeighbour corners begins v) (height points d) n) [
         | nowhere none ↦ absurd (true≢false (sym m ∙ none w k))
-        | at x l i top ↦ absurd (true≢false (sym (highest-is (record { neighbour = i; top = top })) ∙ any-false f n e x l))
+        | at x l i top ↦ absurd (true≢false (sym (highest-is points corners begins d (record { neighbour = i; top = top })) ∙ any-false f n e x l))
       ]) refl
+
+  -- a walk keeps its direction
+  pub step-direction : (s : Standing) → step points corners begins s .direction ≡ s .direction
+  step-direction s = elim (stepped s) [ moved u v c up e ↦ ap (λ r. r .direction) e | stayed h e ↦ ap (λ r. r .direction) e ]

@@ -1,54 +1,55 @@
 // One step of the walk, and steps until none rises.
 ghost use mathlib.Core.Path.{_≡_};
 ghost use Rattle.points.specs.Points.{Vertex, Ranged};
-ghost use Rattle.edges.specs.Index.{Leaving};
-ghost use Rattle.direction.specs.Direction.{direction, Permitted};
-ghost use Rattle.height.specs.Height.{spot, Placed};
+ghost use Rattle.direction.specs.Direction.{Permitted};
 ghost use Rattle.climb.specs.Step.{begin, step};
 ghost use Rattle.climb.specs.Best.{Best};
-ghost use Rattle.climb.specs.Ready.{Ready, Stands};
-ghost use Rattle.climb.specs.Course.{finish, trailed};
-ghost use Rattle.climb.specs.Climb.{Climbs};
+ghost use Rattle.climb.specs.Ready.{Ready};
+ghost use Rattle.climb.specs.Climb.{Climbs, Climbed};
 
-// The highest of a vertex and its neighbours, the lowest number among equals: along the chain of the vertex.
-fn highest(
-    points: &[i32],
-    corners: &[u16],
-    begins: &[u16],
-    ends: &[u16; 6144],
-    last: &[u16; 1024],
-    back: &[u16; 6144],
-    direction: direction::Direction,
-    here: height::Spot,
-) -> height::Spot
-    requires { ⌜ Ready (now points) (now corners) (now begins) (now ends) (now last) (now back) direction ⌝ }
-    requires { ⌜ Placed (now points) direction here ⌝ }
-    ensures { λ r. ⌜ Best (now (points .entry)) (now (corners .entry)) (now (begins .entry)) direction (here .vertex) 0 r ⌝ }
-{
-    let mut best = here;
-    let mut q = tables::wide(last[tables::wide(here.vertex)]);
-    while 0 < q {
-        let p = q - 1;
-        best = height::better(best, height::Spot::at(points, direction, ends[p]));
-        q = tables::wide(back[p]);
-    }
-    best
-}
-
-// The walk as it stands: the present vertex, its height, and the moves so far.
+// The walk as it stands: its direction, the present vertex with its height, and the moves so far.
 pub struct Standing {
+    pub direction: direction::Direction,
     pub spot: height::Spot,
     pub moves: usize,
 }
 
+// The highest of the present vertex and its neighbours, the lowest number among equals: along the chain of the vertex.
+fn highest(
+    points: &[i32],
+    corners: &[u16],
+    begins: &[u16],
+    edges: &index::Edges,
+    heads: &index::Heads,
+    here: Standing,
+) -> height::Spot
+    requires { ⌜ Ready (now points) (now corners) (now begins) (now edges) (now heads) here ⌝ }
+    ensures { λ r. ⌜ Best (now (points .entry)) (now (corners .entry)) (now (begins .entry)) (here .direction) (here .spot .vertex) 0 r ⌝ }
+{
+    let direction = here.direction;
+    let mut best = here.spot;
+    let mut q = index::head_at(heads, tables::wide(best.vertex));
+    while 0 < q {
+        let p = q - 1;
+        let next = height::Spot::at(points, direction, index::end_at(edges, p));
+        best = height::better(best, next);
+        q = index::back_at(edges, p);
+    }
+    best
+}
+
 impl Standing {
     // Where a walk begins.
-    fn begin(points: &[i32], direction: direction::Direction, start: u16) -> Self
+    pub fn begin(points: &[i32], direction: direction::Direction, start: u16) -> Self
         requires { ⌜ Ranged (now points) × Vertex (now points) start × Permitted direction ⌝ }
         ensures { λ r. ⌜ r ≡ begin (now (points .entry)) direction start ⌝ }
     {
         let spot = height::Spot::at(points, direction, start);
-        Self { spot, moves: 0 }
+        Self {
+            direction,
+            spot,
+            moves: 0,
+        }
     }
 
     // One step: to the highest neighbour if it is strictly higher, else none.
@@ -57,53 +58,50 @@ impl Standing {
         points: &[i32],
         corners: &[u16],
         begins: &[u16],
-        ends: &[u16; 6144],
-        last: &[u16; 1024],
-        back: &[u16; 6144],
-        direction: direction::Direction,
+        edges: &index::Edges,
+        heads: &index::Heads,
     ) -> Self
-        requires { ⌜ Ready (now points) (now corners) (now begins) (now ends) (now last) (now back) direction ⌝ }
-        requires { ⌜ Stands (now points) direction self ⌝ }
-        ensures { λ r. ⌜ r ≡ step (now (points .entry)) (now (corners .entry)) (now (begins .entry)) direction self ⌝ }
+        requires { ⌜ Ready (now points) (now corners) (now begins) (now edges) (now heads) self ⌝ }
+        ensures { λ r. ⌜ r ≡ step (now (points .entry)) (now (corners .entry)) (now (begins .entry)) self ⌝ }
     {
+        let best = highest(points, corners, begins, edges, heads, self);
         let here = self.spot;
-        let best = highest(points, corners, begins, ends, last, back, direction, here);
         if height::is_above(best, here) {
+            let direction = self.direction;
             return Self {
+                direction,
                 spot: best,
                 moves: self.moves + 1,
             };
         }
         self
     }
-}
 
-// Walks until no neighbour is strictly higher, and lists the vertices stood on.
-pub fn climb(
-    points: &[i32],
-    corners: &[u16],
-    begins: &[u16],
-    ends: &[u16; 6144],
-    last: &[u16; 1024],
-    back: &[u16; 6144],
-    direction: direction::Direction,
-    start: u16,
-    trail: &mut [u16],
-) -> Standing
-    requires { ⌜ Leaving (now corners) (now begins) (now ends) (now last) (now back) ⌝ }
-    requires { ⌜ Climbs (now points) (now corners) (now begins) direction start (now trail) ⌝ }
-    ensures { λ r. ⌜ r ≡ finish (now (points .entry)) (now (corners .entry)) (now (begins .entry)) direction start ⌝ }
-    ensures { λ r. ⌜ now (trail .exit) ≡ trailed (now (points .entry)) (now (corners .entry)) (now (begins .entry)) direction start (now (trail .entry)) ⌝ }
-{
-    let mut here = Standing::begin(points, direction, start);
-    trail[0] = start;
-    let mut next = here.step(points, corners, begins, ends, last, back, direction);
-    while here.moves < next.moves {
-        here = next;
-        let moves = here.moves;
-        let spot = here.spot;
-        trail[moves] = spot.vertex;
-        next = here.step(points, corners, begins, ends, last, back, direction);
+    // Walks until no neighbour is strictly higher, and lists the vertices stood on.
+    pub fn climb(
+        self,
+        points: &[i32],
+        corners: &[u16],
+        begins: &[u16],
+        edges: &index::Edges,
+        heads: &index::Heads,
+        trail: &mut [u16],
+    ) -> Self
+        requires { ⌜ Climbs (now points) (now corners) (now begins) (now edges) (now heads) self (now trail) ⌝ }
+        ensures { λ r. ⌜ Climbed (now (points .entry)) (now (corners .entry)) (now (begins .entry)) self (now (trail .entry)) r (now (trail .exit)) ⌝ }
+    {
+        let spot = self.spot;
+        let start = spot.vertex;
+        trail[0] = start;
+        let mut here = self;
+        let mut next = here.step(points, corners, begins, edges, heads);
+        while here.moves < next.moves {
+            here = next;
+            let moves = here.moves;
+            let spot = here.spot;
+            trail[moves] = spot.vertex;
+            next = here.step(points, corners, begins, edges, heads);
+        }
+        here
     }
-    here
 }
