@@ -9,10 +9,10 @@ use Rattle.tape.specs.Reading.{lookAt, after, run, readTape}
 use Rattle.tape.specs.Whole.{Looks}
 use Rattle.tape.specs.declared.Next.{Next}
 use Rattle.tape.specs.declared.Next.the-variants.{Point, Facet, End, Bad}
-use Rattle.tape.specs.declared.Outcome.{Outcome}
-use Rattle.tape.specs.declared.Outcome.the-variants.{Read, Refused}
+use Rattle.reading.specs.declared.Reading.{Reading}
+use Rattle.reading.specs.declared.Reading.the-variants.{Read, Refused}
 
-pub record Stands (s : List ℕ) (look : ℕ → ℕ → ℕ → ℕ → Next) (o : Outcome) (at v f c : ℕ) : Type 0 where
+pub record Stands (s : List ℕ) (look : ℕ → ℕ → ℕ → ℕ → Next) (o : Reading) (at v f c : ℕ) : Type 0 where
   pub left : ℕ
   pub inside : at ≤ length s
   pub ahead : length s < left + at
@@ -33,7 +33,7 @@ stands-0 s = record {
   same = refl;
 }
 
-module _ {s : List ℕ} {look : ℕ → ℕ → ℕ → ℕ → Next} (L : Looks s look) {o : Outcome} {at v f c : ℕ} (st : Stands s look o at v f c) where
+module _ {s : List ℕ} {look : ℕ → ℕ → ℕ → ℕ → Next} (L : Looks s look) {o : Reading} {at v f c : ℕ} (st : Stands s look o at v f c) where
   -- the next record, with one look less left
   record Rest (r : Next) : Type 0 where
     rest : ℕ

@@ -85,7 +85,7 @@ fn look(tape: &[u8], at: usize, v: usize, f: usize, c: usize) -> tape::Next
 }
 
 // The deciding pass: what the records add up to, or the first bad one.
-pub fn decide(tape: &[u8]) -> tape::Outcome
+pub fn decide(tape: &[u8]) -> reading::Reading
     ensures { λ r. ⌜ r ≡ readTape (now (tape .entry)) ⌝ }
 {
     let mut at = 0;
@@ -103,8 +103,8 @@ pub fn decide(tape: &[u8]) -> tape::Outcome
                 f += 1;
                 c += n;
             }
-            tape::Next::End => return tape::Outcome::Read(v, f, c),
-            tape::Next::Bad(number, offset) => return tape::Outcome::Refused(number, offset),
+            tape::Next::End => return reading::Reading::Read(v, f, c),
+            tape::Next::Bad(number, offset) => return reading::Reading::Refused(number, offset),
         }
     }
 }

@@ -7,21 +7,7 @@ ghost use Rattle.tables.specs.Tables.{mostCorners};
 ghost use Rattle.whole.specs.Over.{over};
 ghost use Rattle.tape.specs.Reading.{coordsAt, numbersAt, pointsAt, cornersAt, beginsAt};
 ghost use Rattle.tape.specs.Whole.{Facets};
-ghost use Rattle.reader.specs.Answer.{noRoom, reading, pointsAfter, cornersAfter, beginsAfter};
-
-pub const POINT_ROOM: usize = 3072;
-
-pub const CORNER_ROOM: usize = 6144;
-
-pub const BEGIN_ROOM: usize = 2049;
-
-// The reader's answer: 0 with V, F and corners, or a refusal's number with its byte offset.
-pub struct Reading {
-    pub number: u16,
-    pub first: usize,
-    pub second: usize,
-    pub third: usize,
-}
+ghost use Rattle.reader.specs.Answer.{reading, pointsAfter, cornersAfter, beginsAfter};
 
 // The numbers of a point's body, which starts at i, stored from p on.
 fn keep_point(points: &mut [i32], p: usize, tape: &[u8], i: usize)
@@ -91,55 +77,27 @@ fn fill_facets(tape: &[u8], from: usize, corners: &mut [u16], begins: &mut [u16]
     begins[n] = c as u16;
 }
 
-// Whether a lent table is too short, by how many entries each has.
-fn no_room(points: usize, corners: usize, begins: usize) -> bool
-    ensures { λ r. ⌜ r ≡ noRoom points corners begins ⌝ }
-{
-    if points < POINT_ROOM {
-        return true;
-    }
-    if corners < CORNER_ROOM {
-        return true;
-    }
-    begins < BEGIN_ROOM
-}
-
 // Reads a tape into the lent tables.
 pub fn read_tape(
     tape: &[u8],
     points: &mut [i32],
     corners: &mut [u16],
     begins: &mut [u16],
-) -> Reading
+) -> reading::Reading
     ensures { λ r. ⌜ r ≡ reading (now (tape .entry)) (now (points .entry)) (now (corners .entry)) (now (begins .entry)) ⌝ }
     ensures { λ _. ⌜ now (points .exit) ≡ pointsAfter (now (tape .entry)) (now (points .entry)) (now (corners .entry)) (now (begins .entry)) ⌝ }
     ensures { λ _. ⌜ now (corners .exit) ≡ cornersAfter (now (tape .entry)) (now (points .entry)) (now (corners .entry)) (now (begins .entry)) ⌝ }
     ensures { λ _. ⌜ now (begins .exit) ≡ beginsAfter (now (tape .entry)) (now (points .entry)) (now (corners .entry)) (now (begins .entry)) ⌝ }
 {
-    if no_room(points.len(), corners.len(), begins.len()) {
-        return Reading {
-            number: 16,
-            first: 0,
-            second: 0,
-            third: 0,
-        };
+    if reading::no_room(points.len(), corners.len(), begins.len()) {
+        return reading::Reading::Refused(16, 0);
     }
     match look::decide(tape) {
-        tape::Outcome::Read(v, f, c) => {
+        reading::Reading::Read(v, f, c) => {
             fill_points(tape, 0, points, v);
             fill_facets(tape, 7 * v, corners, begins, f);
-            Reading {
-                number: 0,
-                first: v,
-                second: f,
-                third: c,
-            }
+            reading::Reading::Read(v, f, c)
         }
-        tape::Outcome::Refused(number, offset) => Reading {
-            number,
-            first: offset,
-            second: 0,
-            third: 0,
-        },
+        reading::Reading::Refused(number, offset) => reading::Reading::Refused(number, offset),
     }
 }

@@ -38,7 +38,8 @@ use Rattle.whole.specs.Over.{over}
 use Rattle.tape.specs.Records.{packed}
 use Rattle.tape.specs.Reading.{lookAt, run, readTape, place}
 use Rattle.reader.specs.Answer.{reading, pointsAfter, cornersAfter, beginsAfter}
-use Rattle.reader.specs.declared.Reading.{Reading}
+use Rattle.reading.specs.declared.Reading.{Reading}
+use Rattle.reading.specs.declared.Reading.the-variants.{Read, Refused}
 use Rattle.writer.specs.Answer.{written, bufferAfter}
 
 -- ---- what can be asked, and what is answered
@@ -78,15 +79,9 @@ answer (read bytes s) =
     ofReader (reading bytes (s .points) (s .corners) (s .begins))
     (tables (pointsAfter bytes (s .points) (s .corners) (s .begins)) (cornersAfter bytes (s .points) (s .corners) (s .begins)) (beginsAfter bytes (s .points) (s .corners) (s .begins)))
 
--- the walk's "vertex, height, moves"; the reader's "V, F and corners, or a number and byte offset"
+-- the walk's "vertex, height, moves"
 abbrev arrived : ℕ → ℤ → ℕ → Walked
 arrived vertex height moves = record { answer = accepted 0 0 0; vertex = vertex; height = height; moves = moves }
-
-abbrev filled : ℕ → ℕ → ℕ → Reading
-filled v f c = record { number = 0; first = v; second = f; third = c }
-
-abbrev unread : ℕ → ℕ → Reading
-unread number offset = record { number = number; first = offset; second = 0; third = 0 }
 
 -- ---- the solids, outlines and tapes
 
@@ -177,8 +172,8 @@ table =
     ∷ row N (outline (xy (pos 0) (pos 0) ++ xy (pos 1) (pos 0) ++ xy (pos 2) (pos 0) ++ xy (pos 2) (pos 2) ++ xy (pos 0) (pos 2))) (ofOutline (verdict 25 1))
     ∷ row O (outline (xy (pos 4) (pos 0) ++ xy (minus 3) (pos 2) ++ xy (pos 1) (minus 4) ++ xy (pos 1) (pos 4) ++ xy (minus 3) (minus 2))) (ofOutline (verdict 26 3))
     ∷ row P (write T (replicate 64 9)) (ofWriter (accepted 61 0 0) (tapeT ++ (9 ∷ 9 ∷ 9 ∷ [])))
-    ∷ row P (read tapeT lent) (ofReader (filled 4 4 12) lent-T)
-    ∷ row P (read (take 60 tapeT) lent) (ofReader (unread 20 56) lent)
+    ∷ row P (read tapeT lent) (ofReader (Read 4 4 12) lent-T)
+    ∷ row P (read (take 60 tapeT) lent) (ofReader (Refused 20 56) lent)
     ∷ []
 
 -- the sheet's letters in its order: C and H have two rows, P three

@@ -1,3 +1,4 @@
+// The tape: its little-endian numbers, and what stands at an offset.
 ghost use mathlib.Core.Path.{_≡_};
 ghost use Prim.Native.Nat.{_+_, _<_};
 ghost use lib.ListN.{length};
@@ -12,12 +13,6 @@ pub enum Next {
     Facet(usize),
     End,
     Bad(u16, usize),
-}
-
-// What a tape is read as: V, F and corners, or a refusal's number and offset.
-pub enum Outcome {
-    Read(usize, usize, usize),
-    Refused(u16, usize),
 }
 
 // The unsigned number whose two bytes stand at i.

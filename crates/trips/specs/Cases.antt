@@ -16,8 +16,8 @@ use Rattle.tape.specs.Records.{packed}
 use Rattle.tape.specs.Tape.{tape}
 use Rattle.tape.specs.Reading.{lookAt, run, readTape, pointsAt, place, cornersAt, beginsAt}
 use Rattle.tape.specs.declared.Next.the-variants.{Bad}
-use Rattle.tape.specs.declared.Outcome.the-variants.{Read, Refused}
-use Rattle.reader.specs.Answer.{outcome}
+use Rattle.reading.specs.declared.Reading.the-variants.{Read, Refused}
+use Rattle.reader.specs.Answer.{reading}
 use Rattle.writer.specs.Answer.{written, bufferAfter}
 
 -- solid T
@@ -52,7 +52,7 @@ case-P = record { bytes = refl; sixty-one = refl; read = refl; read-points = ref
 
 -- ROOM before anything else; input used up; the end alone
 pub record Reads : Type 0 where
-  pub room : outcome [] [] [] [] ≡ Refused 16 0
+  pub room : reading [] [] [] [] ≡ Refused 16 0
   pub empty : readTape [] ≡ Refused 20 0
   pub no-records : readTape (0 ∷ 0 ∷ 0 ∷ 0 ∷ 0 ∷ []) ≡ Read 0 0 0
   -- KIND 2 and 13; ORDER; CUT of a body; COUNT by F, and by V; TAIL at the byte that follows

@@ -26,9 +26,11 @@ use Rattle.tape.specs.Records.{divided, length-facet}
 use Rattle.tape.specs.Tape.{tape}
 use Rattle.tape.specs.Reading.{readTape, pointsAt, cornersAt, beginsAt, length-points-at}
 use Rattle.tape.specs.Whole.{read-whole, whole-read, refused-number}
-use Rattle.tape.specs.declared.Outcome.{Outcome}
-use Rattle.tape.specs.declared.Outcome.the-variants.{Read, Refused}
-use Rattle.reader.specs.Answer.{answerOf, noRoom, outcome, reading, pointsAfter, cornersAfter, beginsAfter}
+use Rattle.reading.specs.declared.Reading.{Reading}
+use Rattle.reading.specs.declared.Reading.the-variants.{Read, Refused}
+use Rattle.reading.specs.Answer.{answerNumber, firstValue, secondValue, thirdValue}
+use Rattle.reading.specs.Room.{noRoom}
+use Rattle.reader.specs.Answer.{reading, pointsAfter, cornersAfter, beginsAfter}
 use Rattle.reader.specs.Room.{with-room}
 use Rattle.writer.specs.Answer.{spaced, written, bufferAfter}
 use Rattle.limits.specs.InOrder.{InOrder, passes, laid}
@@ -52,32 +54,32 @@ module _ {s : List ℕ} where
 
 module _ (tape : List ℕ) (points : List ℤ) (corners begins : List ℕ) where
   abbrev pub filledPoints : List ℤ
-  filledPoints = take (reading tape points corners begins .first * 3) (pointsAfter tape points corners begins)
+  filledPoints = take (firstValue (reading tape points corners begins) * 3) (pointsAfter tape points corners begins)
 
   abbrev pub filledCorners : List ℕ
-  filledCorners = take (reading tape points corners begins .third) (cornersAfter tape points corners begins)
+  filledCorners = take (thirdValue (reading tape points corners begins)) (cornersAfter tape points corners begins)
 
   abbrev pub filledBegins : List ℕ
-  filledBegins = take (reading tape points corners begins .second + 1) (beginsAfter tape points corners begins)
+  filledBegins = take (secondValue (reading tape points corners begins) + 1) (beginsAfter tape points corners begins)
 
   -- a number 0 is an acceptance
   record Accepts : Type 0 where
     v : ℕ
     f : ℕ
     c : ℕ
-    is : outcome tape points corners begins ≡ Read v f c
+    is : reading tape points corners begins ≡ Read v f c
     read : readTape tape ≡ Read v f c
 
-  accepts : reading tape points corners begins .number ≡ 0 → Accepts
+  accepts : answerNumber (reading tape points corners begins) ≡ 0 → Accepts
   accepts n = go (noRoom (length points) (length corners) (length begins)) refl (readTape tape) refl
     where
-      go : (t : Bool) → noRoom (length points) (length corners) (length begins) ≡ t → (o : Outcome) → readTape tape ≡ o → Accepts
+      go : (t : Bool) → noRoom (length points) (length corners) (length begins) ≡ t → (o : Reading) → readTape tape ≡ o → Accepts
       go true e o q = let z : _≡_ {A = ℕ} 16 0 = rw e at n in absurd (omega arith)
       go false e (Read v f c) q = record { v = v; f = f; c = c; is = with-room tape points corners begins e ∙ q; read = q }
       go false e (Refused number offset) q = let z : number ≡ 0 = rw (e, q) at n in absurd (omega (arith, refused-number tape q))
 
   -- every tape that the reader accepts is the tape of the tables that it filled
-  pub accepted-taped : Bytes tape → reading tape points corners begins .number ≡ 0 → Taped tape filledPoints filledCorners filledBegins
+  pub accepted-taped : Bytes tape → answerNumber (reading tape points corners begins) ≡ 0 → Taped tape filledPoints filledCorners filledBegins
   accepted-taped b n =
       let a = accepts n in
       let w = read-whole (a .read) in
@@ -88,13 +90,13 @@ module _ (tape : List ℕ) (points : List ℤ) (corners begins : List ℕ) where
       (read-taped b (a .read))
 
   -- "Each refusal .. alters no byte of what was lent"
-  pub refused-unchanged : (reading tape points corners begins .number ≡ 0 → ⊥)
+  pub refused-unchanged : (answerNumber (reading tape points corners begins) ≡ 0 → ⊥)
       → (pointsAfter tape points corners begins ≡ points) × (cornersAfter tape points corners begins ≡ corners) × (beginsAfter tape points corners begins ≡ begins)
-  refused-unchanged n = go (outcome tape points corners begins) refl
+  refused-unchanged n = go (reading tape points corners begins) refl
     where
-      go : (o : Outcome) → outcome tape points corners begins ≡ o
+      go : (o : Reading) → reading tape points corners begins ≡ o
           → (pointsAfter tape points corners begins ≡ points) × (cornersAfter tape points corners begins ≡ corners) × (beginsAfter tape points corners begins ≡ begins)
-      go (Read v f c) e = absurd (n (ap (λ (o : Outcome). answerOf o .number) e))
+      go (Read v f c) e = absurd (n (ap answerNumber e))
       go (Refused number offset) e = rw e (refl, refl, refl)
 
 pub refused-unwritten : (points : List ℤ) (corners begins buffer : List ℕ) → (written points corners begins buffer .number ≡ 0 → ⊥)
@@ -156,7 +158,7 @@ taped-written {s} {points} {corners} {begins} t o buffer h =
       same = rw (buffer-written o buffer room, answer-written o buffer room) (take-over (tape points corners begins) buffer (length (tape points corners begins)) refl);
     })
 
-pub read-then-written : (s : List ℕ) (points : List ℤ) (corners begins buffer : List ℕ) → Bytes s → reading s points corners begins .number ≡ 0
+pub read-then-written : (s : List ℕ) (points : List ℤ) (corners begins buffer : List ℕ) → Bytes s → answerNumber (reading s points corners begins) ≡ 0
     → InOrder (filledPoints s points corners begins) (filledCorners s points corners begins) (filledBegins s points corners begins) → length s ≤ length buffer
     → SameBytes s (filledPoints s points corners begins) (filledCorners s points corners begins) (filledBegins s points corners begins) buffer
 read-then-written s points corners begins buffer b n o h = taped-written (accepted-taped s points corners begins b n) o buffer h
@@ -165,7 +167,7 @@ read-then-written s points corners begins buffer b n o h = taped-written (accept
 
 -- the reader answers the tables' counts, and leaves the tables over the beginnings of those lent
 pub record SameTables (s : List ℕ) (points : List ℤ) (corners begins : List ℕ) (lentPoints : List ℤ) (lentCorners lentBegins : List ℕ) : Type 0 where
-  pub answer : reading s lentPoints lentCorners lentBegins ≡ answerOf (Read (vertices points) (facets begins) (length corners))
+  pub answer : reading s lentPoints lentCorners lentBegins ≡ Read (vertices points) (facets begins) (length corners)
   pub left-points : pointsAfter s lentPoints lentCorners lentBegins ≡ over points lentPoints
   pub left-corners : cornersAfter s lentPoints lentCorners lentBegins ≡ over corners lentCorners
   pub left-begins : beginsAfter s lentPoints lentCorners lentBegins ≡ over begins lentBegins
@@ -178,10 +180,10 @@ holds-read : {points : List ℤ} {corners begins : List ℕ} → Holds points co
     → SameTables (tape points corners begins) points corners begins lentPoints lentCorners lentBegins
 holds-read {points} {corners} {begins} h p c b room =
     let s = tape points corners begins in
-    let out : outcome s p c b ≡ Read (vertices points) (facets begins) (length corners) = with-room s p c b room ∙ whole-read (holds-whole h) in
+    let out : reading s p c b ≡ Read (vertices points) (facets begins) (length corners) = with-room s p c b room ∙ whole-read (holds-whole h) in
     let last : length begins ≡ facets begins + 1 = omega (arith, h .divided .some) in
     record {
-      answer = ap answerOf out;
+      answer = out;
       left-points = rw (out, points-are h);
       left-corners = rw (out, corners-are h);
       left-begins = rw (out, begins-are h);

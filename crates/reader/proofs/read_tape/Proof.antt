@@ -4,9 +4,10 @@ use mathlib.Core.Path.{_≡_, sym, _∙_}
 use native.Mathlib.Omega.{arith}
 use Rattle.tape.specs.Reading.{readTape}
 use Rattle.tape.specs.Whole.{Whole, read-whole}
-use Rattle.tape.specs.declared.Outcome.the-variants.{Read}
-use Rattle.reader.specs.Answer.{outcome}
-use Rattle.reader.specs.Room.{Roomy, roomy, no-room, with-room, points-inside, for-points, for-facets, refusing, accepting}
+use Rattle.reading.specs.declared.Reading.the-variants.{Read}
+use Rattle.reader.specs.Answer.{reading}
+use Rattle.reading.specs.Room.{Roomy, roomy}
+use Rattle.reader.specs.Room.{no-room, with-room, points-inside, for-points, for-facets, refusing, accepting}
 use Rattle.reader.proofs.read_tape.Statement.{statement}
 use Rattle.reader.proofs.read_tape.Tie as tie
 
@@ -23,7 +24,7 @@ returns c =
 room : (c : tie.Else1) → let a = entry (c .before) .args in Roomy (a .points .now) (a .corners .now) (a .begins .now)
 room c = roomy (sym (c .before .no-room .ensures) ∙ c .if1 .left)
 
-by-room : (c : tie.Else1) → let a = entry (c .before) .args in outcome (a .tape .now) (a .points .now) (a .corners .now) (a .begins .now) ≡ readTape (a .tape .now)
+by-room : (c : tie.Else1) → let a = entry (c .before) .args in reading (a .tape .now) (a .points .now) (a .corners .now) (a .begins .now) ≡ readTape (a .tape .now)
 by-room c =
     let a = entry (c .before) .args in
     with-room (a .tape .now) (a .points .now) (a .corners .now) (a .begins .now) (sym (c .before .no-room .ensures) ∙ c .if1 .left)

@@ -1,7 +1,7 @@
--- `reader::no_room` meets its contract. Assumes nothing.
+-- `reading::no_room` meets its contract. Assumes nothing.
 use borrow.Author.Tests.{lt-ltb, le-ltb}
-use Rattle.reader.proofs.no_room.Statement.{statement}
-use Rattle.reader.proofs.no_room.Tie as tie
+use Rattle.reading.proofs.no_room.Statement.{statement}
+use Rattle.reading.proofs.no_room.Tie as tie
 
 returns : tie.Need-returns
 returns c = rw (lt-ltb _ _ (c .if1 .taken))
