@@ -1,4 +1,3 @@
 -- What the two programs print of a tape.
 pub mod Tape
 pub mod Lines
-pub mod Filled

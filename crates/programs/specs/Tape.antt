@@ -1,22 +1,16 @@
 -- What the programs make of a tape: they read it, then judge or walk. Assumes nothing.
 use mathlib.Core.List.{List}
-use Prim.Native.Nat.{ℕ, _+_, _*_}
-use lib.IntN.{ℤ}
+use Prim.Native.Nat.{ℕ}
 use lib.ListN.{replicate}
+use Rattle.tables.specs.Tables.{mostVertices}
 use Rattle.answers.specs.Answer.{refused}
 use Rattle.answers.specs.declared.Answer.{Answer}
-use Rattle.tape.specs.Reading.{readTape, pointsAt, cornersAt, beginsAt}
-use Rattle.tape.specs.declared.Outcome.{Outcome}
-use Rattle.tape.specs.declared.Outcome.the-variants.{Read, Refused}
+use Rattle.tape.specs.Reading.{readTape}
+use Rattle.load.specs.Tape.{ofTape}
 use Rattle.judge.specs.Judge.{judged}
 use Rattle.walk.specs.Walk.{walked, halted}
 use Rattle.direction.specs.declared.Direction.{Direction}
 use Rattle.walk.specs.declared.Walked.{Walked}
-
--- of the tables of a tape that is read, or of the reader's number and offset
-abbrev pub ofTape : {A : Type 0} → (List ℤ → List ℕ → List ℕ → A) → (ℕ → ℕ → A) → List ℕ → Outcome → A
-ofTape solid refusal tape (Read v f c) = solid (pointsAt tape 0 v) (cornersAt tape (7 * v) f) (beginsAt tape (7 * v) (f + 1))
-ofTape solid refusal tape (Refused number offset) = refusal number offset
 
 -- "reads, then judges"; "For a reader's refusal the first place is the offset."
 unfoldable pub judgedTape : List ℕ → Answer
@@ -24,7 +18,7 @@ judgedTape tape = ofTape judged (λ number offset. refused number offset 0) tape
 
 -- the trail that the walk is lent: as many entries as a solid has vertices at most
 abbrev pub trail : List ℕ
-trail = replicate 1024 0
+trail = replicate mostVertices 0
 
 -- "The second program prints a walk"; "On a refusal, the reader's included, the other three print 0."
 unfoldable pub walkedTape : List ℕ → Direction → ℕ → Walked

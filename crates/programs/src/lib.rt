@@ -8,16 +8,16 @@ ghost use Rattle.programs.specs.Lines.{placesOf, judgeNumbers, movesOf, 
 fn judge_tape(tape: &[u8]) -> answers::Answer
     ensures { λ r. ⌜ r ≡ judgedTape (now (tape .entry)) ⌝ }
 {
-    let mut points = [0i32; 3072];
-    let mut corners = [0u16; 6144];
-    let mut begins = [0u16; 2049];
-    let read = reader::read_tape(tape, &mut points, &mut corners, &mut begins);
-    if read.number != 0 {
-        return answers::Answer::refused(read.number, read.first, 0);
+    let mut points = [0i32; reading::POINT_ROOM];
+    let mut corners = [0u16; reading::CORNER_ROOM];
+    let mut begins = [0u16; reading::BEGIN_ROOM];
+    let loaded = load::load(tape, &mut points, &mut corners, &mut begins);
+    if loaded.number != 0 {
+        return answers::Answer::refused(loaded.number, loaded.offset, 0);
     }
-    let p = read.first * 3;
-    let c = read.third;
-    let b = read.second + 1;
+    let p = loaded.points;
+    let c = loaded.corners;
+    let b = loaded.begins;
     judge::judge(&points[..p], &corners[..c], &begins[..b])
 }
 
@@ -44,12 +44,12 @@ pub fn judge_line(tape: &[u8]) -> lines::Line
 fn walk_tape(tape: &[u8], direction: direction::Direction, start: usize) -> walk::Walked
     ensures { λ r. ⌜ r ≡ walkedTape (now (tape .entry)) direction start ⌝ }
 {
-    let mut points = [0i32; 3072];
-    let mut corners = [0u16; 6144];
-    let mut begins = [0u16; 2049];
-    let read = reader::read_tape(tape, &mut points, &mut corners, &mut begins);
-    if read.number != 0 {
-        let answer = answers::Answer::refused(read.number, 0, 0);
+    let mut points = [0i32; reading::POINT_ROOM];
+    let mut corners = [0u16; reading::CORNER_ROOM];
+    let mut begins = [0u16; reading::BEGIN_ROOM];
+    let loaded = load::load(tape, &mut points, &mut corners, &mut begins);
+    if loaded.number != 0 {
+        let answer = answers::Answer::refused(loaded.number, 0, 0);
         return walk::Walked {
             answer,
             vertex: 0,
@@ -57,10 +57,10 @@ fn walk_tape(tape: &[u8], direction: direction::Direction, start: usize) -> walk
             moves: 0,
         };
     }
-    let p = read.first * 3;
-    let c = read.third;
-    let b = read.second + 1;
-    let mut trail = [0u16; 1024];
+    let p = loaded.points;
+    let c = loaded.corners;
+    let b = loaded.begins;
+    let mut trail = [0u16; tables::MOST_VERTICES];
     walk::walk(
         &points[..p],
         &corners[..c],
