@@ -1,6 +1,7 @@
 -- What the programs make of a tape: they read it, then judge or walk. Assumes nothing.
 use mathlib.Core.List.{List}
 use Prim.Native.Nat.{ℕ}
+use lib.IntN.{ℤ}
 use lib.ListN.{replicate}
 use Rattle.tables.specs.Tables.{mostVertices}
 use Rattle.answers.specs.Answer.{refused}
@@ -13,14 +14,22 @@ use Rattle.direction.specs.declared.Direction.{Direction}
 use Rattle.walk.specs.declared.Walked.{Walked}
 
 -- "reads, then judges"; "For a reader's refusal the first place is the offset."
-unfoldable pub judgedTape : List ℕ → Answer
-judgedTape tape = ofTape judged (λ number offset. refused number offset 0) tape (readTape tape)
+abbrev pub atOffset : ℕ → ℕ → Answer
+atOffset number offset = refused number offset 0
 
--- the trail that the walk is lent: as many entries as a solid has vertices at most
+unfoldable pub judgedTape : List ℕ → Answer
+judgedTape tape = ofTape judged atOffset tape (readTape tape)
+
+-- "The second program prints a walk"; it is lent a trail of as many entries as a solid has vertices at most
 abbrev pub trail : List ℕ
 trail = replicate mostVertices 0
 
--- "The second program prints a walk"; "On a refusal, the reader's included, the other three print 0."
+abbrev pub walkedFrom : Direction → ℕ → List ℤ → List ℕ → List ℕ → Walked
+walkedFrom d start points corners begins = walked points corners begins d start trail
+
+-- "On a refusal, the reader's included, the other three print 0."
+abbrev pub atNothing : ℕ → ℕ → Walked
+atNothing number offset = halted (refused number 0 0)
+
 unfoldable pub walkedTape : List ℕ → Direction → ℕ → Walked
-walkedTape tape d start =
-    ofTape (λ points corners begins. walked points corners begins d start trail) (λ number offset. halted (refused number 0 0)) tape (readTape tape)
+walkedTape tape d start = ofTape (walkedFrom d start) atNothing tape (readTape tape)
