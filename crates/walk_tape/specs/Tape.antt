@@ -1,24 +1,15 @@
--- What the programs make of a tape: they read it, then judge or walk. Assumes nothing.
+-- What the walk program makes of a tape: it reads it, then walks. Assumes nothing.
 use mathlib.Core.List.{List}
 use Prim.Native.Nat.{ℕ}
 use lib.IntN.{ℤ}
 use lib.ListN.{replicate}
 use Rattle.tables.specs.Tables.{mostVertices}
 use Rattle.answers.specs.Answer.{refused}
-use Rattle.answers.specs.declared.Answer.{Answer}
 use Rattle.tape.specs.Reading.{readTape}
-use Rattle.load.specs.Tape.{ofTape}
-use Rattle.judge.specs.Judge.{judged}
-use Rattle.walk.specs.Walk.{walked, halted}
 use Rattle.direction.specs.declared.Direction.{Direction}
+use Rattle.walk.specs.Walk.{walked, halted}
 use Rattle.walk.specs.declared.Walked.{Walked}
-
--- "reads, then judges"; "For a reader's refusal the first place is the offset."
-abbrev pub atOffset : ℕ → ℕ → Answer
-atOffset number offset = refused number offset 0
-
-unfoldable pub judgedTape : List ℕ → Answer
-judgedTape tape = ofTape judged atOffset tape (readTape tape)
+use Rattle.load.specs.Tape.{ofTape}
 
 -- "The second program prints a walk"; it is lent a trail of as many entries as a solid has vertices at most
 abbrev pub trail : List ℕ

@@ -1,11 +1,11 @@
--- `programs::judge_tape` meets its contract. Assumes nothing.
+-- `judge_tape::judge_tape` meets its contract. Assumes nothing.
 use borrow.Author.Needs.{needs}
 use mathlib.Core.Path.{_∙_}
 use Rattle.judge.specs.Judge.{judged}
 use Rattle.load.specs.Tape.{of-tables, of-refusal}
-use Rattle.programs.specs.Tape.{judgedTape, atOffset}
-use Rattle.programs.proofs.judge_tape.Statement.{statement}
-use Rattle.programs.proofs.judge_tape.Tie as tie
+use Rattle.judge_tape.specs.Tape.{judgedTape, atOffset}
+use Rattle.judge_tape.proofs.judge_tape.Statement.{statement}
+use Rattle.judge_tape.proofs.judge_tape.Tie as tie
 
 returns : tie.Need-returns
 unfolding judgedTape

@@ -1,11 +1,11 @@
--- `programs::walk_tape` meets its contract. Assumes nothing.
+-- `walk_tape::walk_tape` meets its contract. Assumes nothing.
 use borrow.Author.Needs.{needs}
 use mathlib.Core.Path.{_∙_, ap}
 use Rattle.walk.specs.Walk.{halted}
 use Rattle.load.specs.Tape.{of-tables, of-refusal}
-use Rattle.programs.specs.Tape.{walkedTape, walkedFrom, atNothing}
-use Rattle.programs.proofs.walk_tape.Statement.{statement}
-use Rattle.programs.proofs.walk_tape.Tie as tie
+use Rattle.walk_tape.specs.Tape.{walkedTape, walkedFrom, atNothing}
+use Rattle.walk_tape.proofs.walk_tape.Statement.{statement}
+use Rattle.walk_tape.proofs.walk_tape.Tie as tie
 
 returns : tie.Need-returns
 unfolding walkedTape
