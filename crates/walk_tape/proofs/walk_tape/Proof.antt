@@ -28,8 +28,8 @@ pub walk-tape-spec : {M : Type 1} → statement M
 walk-tape-spec =
     tie.close
     (tie.spec
-    (λ c κs. search needs)
-    (λ c κs. search needs)
+    (λ c κs. tt)
+    (λ c κs. tt)
     returns
     (λ c. search needs)
     (λ c. search needs)
@@ -38,5 +38,5 @@ walk-tape-spec =
     (λ c. search needs)
     (λ c. search needs)
     (λ c. search needs)
-    (λ c κs. search needs)
+    (λ c κs. tt)
     returns-2)
