@@ -1,15 +1,12 @@
 -- What the judging program makes of a tape: it reads it, then judges. Assumes nothing.
 use mathlib.Core.List.{List}
 use Prim.Native.Nat.{ℕ}
-use Rattle.answers.specs.Answer.{refused}
+use Rattle.answers.specs.Answer.{atOffset}
 use Rattle.answers.specs.declared.Answer.{Answer}
 use Rattle.judge.specs.Judge.{judged}
 use Rattle.tape.specs.Reading.{readTape}
 use Rattle.load.specs.Tape.{ofTape}
 
--- "reads, then judges"; "For a reader's refusal the first place is the offset."
-abbrev pub atOffset : ℕ → ℕ → Answer
-atOffset number offset = refused number offset 0
-
+-- "reads, then judges"
 unfoldable pub judgedTape : List ℕ → Answer
 judgedTape tape = ofTape judged atOffset tape (readTape tape)

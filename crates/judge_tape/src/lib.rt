@@ -11,7 +11,7 @@ pub fn judge_tape(tape: &[u8]) -> answers::Answer
     let mut begins = [0u16; reading::BEGIN_ROOM];
     let loaded = load::load(tape, &mut points, &mut corners, &mut begins);
     if loaded.number != 0 {
-        return answers::Answer::refused(loaded.number, loaded.offset, 0);
+        return answers::Answer::at_offset(loaded.number, loaded.offset);
     }
     let p = loaded.points;
     let c = loaded.corners;

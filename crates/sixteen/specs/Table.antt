@@ -14,7 +14,8 @@ use Rattle.space.specs.Vectors.{_-_, _·_, det}
 use Rattle.points.specs.Points.{coordOf}
 use Rattle.tables.specs.Tables.{homeOf, nextOf}
 use Rattle.tables.specs.Size.{isSize}
-use Rattle.answers.specs.Answer.{accepted, refused}
+use Rattle.answers.specs.Answer.{accepted, fault, passed, ofLength}
+use Rattle.answers.specs.Order.{firstOf}
 use Rattle.answers.specs.declared.Answer.{Answer}
 use Rattle.edges.specs.Edge.{acrossOf}
 use Rattle.ring.specs.Step.{roundOf}
@@ -86,7 +87,7 @@ answer (read bytes s) =
 
 -- the walk's "vertex, height, moves"
 abbrev arrived : ℕ → ℤ → ℕ → Walked
-arrived vertex height moves = record { answer = accepted 0 0 0; vertex = vertex; height = height; moves = moves }
+arrived vertex height moves = record { answer = passed; vertex = vertex; height = height; moves = moves }
 
 -- ---- the solids, outlines and tapes
 
@@ -163,16 +164,16 @@ row letter question reply = record { letter = letter; question = question; reply
 abbrev pub table : List Case
 table =
     row A (judge T) (ofJudge (accepted 4 6 4))
-    ∷ row B (judge without-last) (ofJudge (refused 1 0 0))
+    ∷ row B (judge without-last) (ofJudge (fault 1 0 0))
     ∷ row C (judge (with-points (vertices (pos 8191) (pos 1)))) (ofJudge (accepted 4 6 4))
-    ∷ row C (judge (with-points (vertices (pos 8192) (pos 1)))) (ofJudge (refused 2 1 0))
-    ∷ row D (judge (with-last (facet 1 2 4))) (ofJudge (refused 3 3 2))
-    ∷ row E (judge (with-last (facet 1 2 2))) (ofJudge (refused 4 3 2))
-    ∷ row F (judge (with-points (T .points ++ xyz (pos 1) (pos 1) (pos 1)))) (ofJudge (refused 5 4 0))
-    ∷ row G (judge (with-last (facet 1 3 2))) (ofJudge (refused 6 0 1))
-    ∷ row H (judge (with-points (vertices (pos 1) (pos 0)))) (ofJudge (refused 9 1 2))
-    ∷ row H (judge (with-points (vertices (pos 1) (minus 1)))) (ofJudge (refused 11 0 0))
-    ∷ row I (judge star) (ofJudge (refused 12 0 3))
+    ∷ row C (judge (with-points (vertices (pos 8192) (pos 1)))) (ofJudge (fault 2 1 0))
+    ∷ row D (judge (with-last (facet 1 2 4))) (ofJudge (fault 3 3 2))
+    ∷ row E (judge (with-last (facet 1 2 2))) (ofJudge (fault 4 3 2))
+    ∷ row F (judge (with-points (T .points ++ xyz (pos 1) (pos 1) (pos 1)))) (ofJudge (fault 5 4 0))
+    ∷ row G (judge (with-last (facet 1 3 2))) (ofJudge (fault 6 0 1))
+    ∷ row H (judge (with-points (vertices (pos 1) (pos 0)))) (ofJudge (fault 9 1 2))
+    ∷ row H (judge (with-points (vertices (pos 1) (minus 1)))) (ofJudge (fault 11 0 0))
+    ∷ row I (judge star) (ofJudge (fault 12 0 3))
     ∷ row J (walk T (direction (pos 1) (pos 1) (pos 1)) 0 (replicate 4 9)) (ofWalk (arrived 1 (pos 1) 1) (0 ∷ 1 ∷ 9 ∷ 9 ∷ []))
     ∷ row K (walk T (direction (pos 0) (pos 0) (pos 0)) 3 (replicate 4 9)) (ofWalk (arrived 3 (pos 0) 0) (3 ∷ 9 ∷ 9 ∷ 9 ∷ []))
     ∷ row L (walk T (direction (pos 0) (pos 0) (minus 1)) 3 (replicate 4 9)) (ofWalk (arrived 0 (pos 0) 1) (3 ∷ 0 ∷ 9 ∷ 9 ∷ []))
@@ -180,7 +181,7 @@ table =
     ∷ row N (outline (xy (pos 0) (pos 0) ++ xy (pos 1) (pos 0) ++ xy (pos 2) (pos 0) ++ xy (pos 2) (pos 2) ++ xy (pos 0) (pos 2))) (ofOutline (verdict 25 1))
     ∷ row O (outline (xy (pos 4) (pos 0) ++ xy (minus 3) (pos 2) ++ xy (pos 1) (minus 4) ++ xy (pos 1) (pos 4) ++ xy (minus 3) (minus 2)))
     (ofOutline (verdict 26 3))
-    ∷ row P (write T (replicate 64 9)) (ofWriter (accepted 61 0 0) (tapeT ++ (9 ∷ 9 ∷ 9 ∷ [])))
+    ∷ row P (write T (replicate 64 9)) (ofWriter (ofLength 61) (tapeT ++ (9 ∷ 9 ∷ 9 ∷ [])))
     ∷ row P (read tapeT lent) (ofReader (Read 4 4 12) lent-T)
     ∷ row P (read (take 60 tapeT) lent) (ofReader (Refused 20 56) lent)
     ∷ []
@@ -192,7 +193,7 @@ letters = refl
 
 -- "Cases A to P stand together as a single table with a single proved statement"
 pub all-sixteen : map (λ r. answer (r .question)) table ≡ map (λ r. r .reply) table
-unfolding judged isSize isOut coordOf firstBelow countBelow lastBelow
+unfolding judged firstOf isSize isOut coordOf firstBelow countBelow lastBelow
     iterate tab rounds homeOf nextOf acrossOf roundOf flooded isBent isTurn
     isReflex isOutside _-_ _·_ det walked trailAfter isSteep step after stood
     judgedOutline judgedTurns few coordOf² before after² isGreater det² joined packed

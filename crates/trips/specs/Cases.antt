@@ -8,7 +8,7 @@ use Rattle.whole.specs.First.{firstBelow}
 use Rattle.points.specs.Range.{isOut}
 use Rattle.points.specs.Points.{coordOf}
 use Rattle.tables.specs.Size.{isSize}
-use Rattle.answers.specs.Answer.{accepted, refused}
+use Rattle.answers.specs.Answer.{accepted, fault, refused}
 use Rattle.tape.specs.Little.{bytesOf, numberAt, bits, signed}
 use Rattle.whole.specs.Joined.{joined}
 use Rattle.whole.specs.Over.{over}
@@ -109,10 +109,10 @@ numbers = record { minus-one = refl; least = refl; most = refl; lower-first = re
 pub record Writes : Type 0 where
   pub space : written points corners begins (replicate 61 7) ≡ accepted 61 0 0
   pub bytes : bufferAfter points corners begins (replicate 61 7) ≡ bytesT
-  pub no-space : written points corners begins (replicate 60 7) ≡ refused 23 0 0
-  pub size : written points (take 9 corners) (take 4 begins) [] ≡ refused 1 0 0
-  pub range : written (pos 0 ∷ pos 0 ∷ pos 0 ∷ pos 8192 ∷ pos 0 ∷ pos 0 ∷ pos 0 ∷ pos 1 ∷ pos 0 ∷ pos 0 ∷ pos 0 ∷ pos 1 ∷ []) corners begins [] ≡ refused 2 1 0
-  pub index : written points (0 ∷ 2 ∷ 1 ∷ 0 ∷ 1 ∷ 3 ∷ 0 ∷ 3 ∷ 2 ∷ 1 ∷ 2 ∷ 4 ∷ []) begins [] ≡ refused 3 3 2
+  pub no-space : written points corners begins (replicate 60 7) ≡ refused 23
+  pub size : written points (take 9 corners) (take 4 begins) [] ≡ fault 1 0 0
+  pub range : written (pos 0 ∷ pos 0 ∷ pos 0 ∷ pos 8192 ∷ pos 0 ∷ pos 0 ∷ pos 0 ∷ pos 1 ∷ pos 0 ∷ pos 0 ∷ pos 0 ∷ pos 1 ∷ []) corners begins [] ≡ fault 2 1 0
+  pub index : written points (0 ∷ 2 ∷ 1 ∷ 0 ∷ 1 ∷ 3 ∷ 0 ∷ 3 ∷ 2 ∷ 1 ∷ 2 ∷ 4 ∷ []) begins [] ≡ fault 3 3 2
 
 pub writes : Writes
 unfolding isSize isOut coordOf firstBelow over joined packed bytesOf bits

@@ -18,7 +18,7 @@ use Rattle.tables.specs.Size.{isSize, wrongLengths, wrongEnds, wrongSides}
 use Rattle.tables.specs.Found.{first-none}
 use Rattle.tables.specs.Facets.{onFacets}
 use Rattle.limits.specs.Rules.{wild}
-use Rattle.answers.specs.Answer.{accepted}
+use Rattle.answers.specs.Answer.{ofLength}
 use Rattle.tape.specs.Little.{Bytes}
 use Rattle.whole.specs.Joined.{length-listed}
 use Rattle.whole.specs.Over.{over, take-over}
@@ -33,7 +33,7 @@ use Rattle.reading.specs.Room.{noRoom}
 use Rattle.reader.specs.Answer.{reading, pointsAfter, cornersAfter, beginsAfter}
 use Rattle.reader.specs.Room.{with-room}
 use Rattle.writer.specs.Answer.{spaced, written, bufferAfter}
-use Rattle.limits.specs.InOrder.{InOrder, passes, laid}
+use Rattle.limits.specs.InOrder.{InOrder, none-limits, laid}
 use Rattle.writer.specs.Owed.{placed}
 use Rattle.trips.specs.Taped.{Sixteen, Holds, Taped}
 use Rattle.trips.specs.ReadIsTape.{whole-taped}
@@ -143,8 +143,8 @@ module _ {points : List ℤ} {corners begins : List ℕ} (o : InOrder points cor
 
   -- what the writer answers and leaves, with space
   module _ (buffer : List ℕ) (room : length (tape points corners begins) ≤ length buffer) where
-    pub answer-written : written points corners begins buffer ≡ accepted (length (tape points corners begins)) 0 0
-    answer-written = passes o (spaced (tape points corners begins) buffer) ∙ rw (le-ltb (length buffer) (length (tape points corners begins)) room)
+    pub answer-written : written points corners begins buffer ≡ ofLength (length (tape points corners begins))
+    answer-written = rw (none-limits o, le-ltb (length buffer) (length (tape points corners begins)) room)
 
     pub buffer-written : bufferAfter points corners begins buffer ≡ over (tape points corners begins) buffer
     buffer-written = rw answer-written
@@ -153,7 +153,7 @@ module _ {points : List ℤ} {corners begins : List ℕ} (o : InOrder points cor
 
 -- the writer answers the length of s, and leaves s over the beginning of the buffer
 pub record SameBytes (s : List ℕ) (points : List ℤ) (corners begins buffer : List ℕ) : Type 0 where
-  pub answer : written points corners begins buffer ≡ accepted (length s) 0 0
+  pub answer : written points corners begins buffer ≡ ofLength (length s)
   pub left : bufferAfter points corners begins buffer ≡ over s buffer
   pub same : take (written points corners begins buffer .first) (bufferAfter points corners begins buffer) ≡ s
 

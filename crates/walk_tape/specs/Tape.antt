@@ -20,7 +20,7 @@ walkedFrom d start points corners begins = walked points corners begins d start 
 
 -- "On a refusal, the reader's included, the other three print 0."
 abbrev pub atNothing : ℕ → ℕ → Walked
-atNothing number offset = halted (refused number 0 0)
+atNothing number offset = halted (refused number)
 
 unfoldable pub walkedTape : List ℕ → Direction → ℕ → Walked
 walkedTape tape d start = ofTape (walkedFrom d start) atNothing tape (readTape tape)

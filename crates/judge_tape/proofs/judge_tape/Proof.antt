@@ -3,7 +3,8 @@ use borrow.Author.Needs.{needs}
 use mathlib.Core.Path.{_∙_}
 use Rattle.judge.specs.Judge.{judged}
 use Rattle.load.specs.Tape.{of-tables, of-refusal}
-use Rattle.judge_tape.specs.Tape.{judgedTape, atOffset}
+use Rattle.answers.specs.Answer.{atOffset}
+use Rattle.judge_tape.specs.Tape.{judgedTape}
 use Rattle.judge_tape.proofs.judge_tape.Statement.{statement}
 use Rattle.judge_tape.proofs.judge_tape.Tie as tie
 
@@ -11,7 +12,7 @@ returns : tie.Need-returns
 unfolding judgedTape
 returns c =
     let l = c .before .before .before .load .ensures in
-    c .refused .ensures ∙ of-refusal _ judged atOffset (l .refusal (c .before .if1 .taken))
+    c .at-offset .ensures ∙ of-refusal _ judged atOffset (l .refusal (c .before .if1 .taken))
 
 returns-2 : tie.Need-returns-2
 unfolding judgedTape
