@@ -15,7 +15,8 @@ use Rattle.flat.specs.Facet.{Measured}
 use Rattle.flat.specs.Rules.{bent}
 use Rattle.turn.specs.Rules.{turn}
 use Rattle.reflex.specs.Rules.{reflex}
-use Rattle.outside.specs.Meaning.{flat, no-reflex}
+use Rattle.shape.specs.Flat.{flat}
+use Rattle.shape.specs.Folds.{no-reflex}
 use Rattle.outside.specs.Passed.{Passed}
 use Rattle.solid.specs.Tables.{Closed}
 use Rattle.bridge.specs.Lower.{all-sound}

@@ -44,7 +44,7 @@ passed c a b x h = elim (ℕ-discrete c a) [
 -- the position after i, by the two crates' names
 after-is : (k i : ℕ) → nextPosition k i ≡ after k i
 unfolding after
-after-is k i = rw add-one refl
+after-is k i = rw add-one
 
 -- a normal is nought where its three parts are
 nought : (n : Vec ℤ) → isNought (listOf n) ≡ true → n ≡ vec (pos 0) (pos 0) (pos 0)
