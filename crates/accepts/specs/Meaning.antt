@@ -19,7 +19,9 @@ use Rattle.pair.specs.Pair.{pair-none}
 use Rattle.bridge.specs.Surface.{tablesOf, sized-tables}
 use Rattle.bridge.specs.Closed.{passes}
 use Rattle.flat.specs.Facet.{Measured}
-use Rattle.outside.specs.Meaning.{flat, flat-bent, flat-turn, reflex-none, inside, inside-outside}
+use Rattle.shape.specs.Flat.{flat, flat-bent, flat-turn}
+use Rattle.shape.specs.Folds.{reflex-none}
+use Rattle.outside.specs.Meaning.{inside, inside-outside}
 use Rattle.solid.specs.Tables.{Convex, Corner, OnPlane, volume}
 use Rattle.solid.specs.Theorems as Solid
 use Rattle.stages.specs.Known.{measured}

@@ -7,7 +7,7 @@ use native.Mathlib.Omega.{arith}
 use lib.ListN.{length}
 use Rattle.whole.specs.Filled.{Blank}
 use Rattle.whole.specs.Rounds.{at, first, arc}
-use Rattle.whole.specs.Flood.{blankRow, entryAt, marked, Queue, Pushing, Push, Pushed, Spread, Flood, Flooded, queue-0, tail-le, pushing}
+use Rattle.whole.specs.Flood.{blankRow, entryAt, marked, Queue, Pushing, Push, Spread, Flood, Flooded, queue-0, tail-le, pushing}
 use Rattle.whole.specs.Flood.{push, spread-0, spread-more, flood-0, flood-more, flood-end}
 use Rattle.tables.specs.Tables.{mostFacets, mostCorners, facets, begin, end, homeOf}
 use Rattle.tables.specs.Places.{In, home, home-is, in-facet}

@@ -14,7 +14,8 @@ use Rattle.pair.specs.Pair.{Paired, pair-none}
 use Rattle.bridge.specs.Surface.{tablesOf}
 use Rattle.bridge.specs.Closed.{is-closed}
 use Rattle.flat.specs.Facet.{Measured}
-use Rattle.outside.specs.Meaning.{flat, no-reflex}
+use Rattle.shape.specs.Flat.{flat}
+use Rattle.shape.specs.Folds.{no-reflex}
 use Rattle.outside.specs.Passed.{Passed}
 use Rattle.solid.specs.Tables.{Closed}
 use Rattle.stages.specs.Known.{measured}

@@ -4,7 +4,6 @@ use mathlib.Core.Path.{sym, _∙_}
 use mathlib.Core.List.{List}
 use native.Mathlib.Omega.{arith}
 use Rattle.answers.specs.Order.{Rule, Passes, passes-more, first-here, none-later}
-use Rattle.edges.specs.Index.{leaves-each}
 use Rattle.judge.specs.Judge.{rules}
 use Rattle.judge.specs.Stages.{measured-after, paired-after, passed-after}
 use Rattle.judge.proofs.from_reflex.Statement.{statement}
@@ -41,7 +40,7 @@ outside-requires : tie.Need-outside-requires
 outside-requires c κs =
     let s = start (c .before .before) in
     let a = s .args in
-    record { passed = passed-after (a .points .now) (a .corners .now) (a .begins .now) (eleven c) (omega arith); leaving = leaves-each (s .pre .1) }
+    record { passed = passed-after (a .points .now) (a .corners .now) (a .begins .now) (eleven c) (omega arith); indexed = s .pre .1 }
 
 returns-2 : tie.Need-returns-2
 returns-2 c =

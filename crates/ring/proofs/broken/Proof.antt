@@ -1,11 +1,11 @@
 -- `ring::broken` meets its contract. The loop's invariant: `Turning`. The measure: links fall. Assumes nothing.
 use borrow.Author.Needs.{needs}
-use mathlib.Core.Path.{_≡_, sym, _∙_}
+use mathlib.Core.Path.{sym, _∙_}
 use Prim.Native.Nat.{_<_}
 use native.Mathlib.Omega.{arith}
 use Rattle.index.specs.Entries.{headAt}
-use Rattle.ring.specs.Turning.{Turning, first-small, turning-0, turning-none, turn-small, turn-falls, turning-more, turning-back}
-use Rattle.ring.specs.Turning.{turning-end}
+use Rattle.ring.specs.Turning.{Turning, first-small, turning-0, turning-none, turning-more, turning-back, turning-end}
+use Rattle.ring.specs.Turning.{turn-small, turn-falls}
 use Rattle.ring.proofs.broken.Statement.{statement}
 use Rattle.ring.proofs.broken.Tie as tie
 
