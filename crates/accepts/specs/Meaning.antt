@@ -1,5 +1,5 @@
 -- Demand 2's sentence on acceptance: the judge answers 0 exactly when 1 to 3 pass and the solid is convex. Assumes nothing.
-use mathlib.Core.Path.{_≡_, refl, sym, ap, _∙_}
+use mathlib.Core.Path.{_≡_, sym, ap, _∙_}
 use mathlib.Core.Logic.{_↔_}
 use mathlib.Core.List.{List}
 use Prim.Native.Nat.{ℕ, _<_}
@@ -9,11 +9,9 @@ use lib.Signed.{_≤ℤ_}
 use Rattle.points.specs.Points.{vertices}
 use Rattle.tables.specs.Tables.{facets, edges}
 use Rattle.tables.specs.Size.{isSize}
-use Rattle.answers.specs.Answer.{accepted, faultOr, answerOf}
-use Rattle.answers.specs.Order.{firstOf, whole, nothing, Passes, passes-0, passes-more, all-pass, none-later, numberOf}
+use Rattle.answers.specs.Answer.{accepted, answerOf, answer-number}
+use Rattle.answers.specs.Order.{firstOf, whole, nothing, Passes, passes-0, passes-more, all-pass, none-later}
 use Rattle.answers.specs.declared.Answer.{Answer}
-use Rattle.answers.specs.declared.Fault.{Fault}
-use Rattle.answers.specs.declared.Fault.the-variants.{Breaks, None}
 use Rattle.limits.specs.InOrder.{InOrder}
 use Rattle.pair.specs.Pair.{pair-none}
 use Rattle.bridge.specs.Surface.{tablesOf, sized-tables}
@@ -32,16 +30,12 @@ use Rattle.judge.specs.Stages.{after-3, measured-after, closed-after, none-brok
 abbrev pub Faultless : List ℤ → List ℕ → List ℕ → Type 0
 Faultless points corners begins = Passes (rules points corners begins) 12
 
-number-of : (fault : Fault) (v e f : ℕ) → faultOr fault (accepted v e f) .number ≡ numberOf fault
-number-of (Breaks number first second) v e f = refl
-number-of None v e f = refl
-
 module _ (points : List ℤ) (corners begins : List ℕ) where
   pub faultless : judged points corners begins .number ≡ 0 → Faultless points corners begins
   unfolding judged
   faultless e =
-      let n = sym (number-of (firstOf (rules points corners begins)) (vertices points) (edges corners) (facets begins)) in
-      all-pass (rules points corners begins) (none-broken points corners begins (n ∙ e))
+      let n = answer-number points corners begins (firstOf (rules points corners begins)) in
+      all-pass (rules points corners begins) (none-broken points corners begins (sym n ∙ e))
 
   -- "accepted: V, E, F"
   pub faultless-accepted : Faultless points corners begins → judged points corners begins ≡ accepted (vertices points) (edges corners) (facets begins)

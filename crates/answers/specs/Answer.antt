@@ -1,4 +1,5 @@
 -- "Answer numbers of the solid judge": the record that judge, walk, writer and programs share, by kinds of answer. Assumes nothing.
+use mathlib.Core.Path.{_≡_, refl}
 use mathlib.Core.List.{List}
 use Prim.Native.Nat.{ℕ}
 use lib.IntN.{ℤ}
@@ -40,3 +41,12 @@ faultOr None later = later
 -- the judge's record, from the tables
 abbrev pub answerOf : List ℤ → List ℕ → List ℕ → Fault → Answer
 answerOf points corners begins first = faultOr first (accepted (vertices points) (edges corners) (facets begins))
+
+-- its number: that of the first fault, or 0
+abbrev pub numberOf : Fault → ℕ
+numberOf (Breaks number first second) = number
+numberOf None = 0
+
+pub answer-number : (points : List ℤ) (corners begins : List ℕ) (first : Fault) → answerOf points corners begins first .number ≡ numberOf first
+answer-number points corners begins (Breaks number first second) = refl
+answer-number points corners begins None = refl

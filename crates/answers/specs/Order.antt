@@ -12,6 +12,7 @@ use Rattle.tables.specs.Found.{lowest, firstPlace, Lowest, First, Nowhere, NoPl
 use Rattle.tables.specs.Found.{searched, sought, lowest-is, nowhere-is, first-is, no-place-is}
 use Rattle.tables.specs.declared.Found.{Found}
 use Rattle.tables.specs.declared.Found.the-variants.{At, Nothing}
+use Rattle.answers.specs.Answer.{numberOf}
 use Rattle.answers.specs.declared.Fault.{Fault}
 use Rattle.answers.specs.declared.Fault.the-variants.{Breaks, None}
 
@@ -206,10 +207,6 @@ first-append (r ∷ rs) qs e = go (λ h. first-append rs qs h) (place (r .search
 unfoldable pub numbered : List Rule → Bool
 numbered [] = true
 numbered (r ∷ rs) = cond (ltb 0 (r .number)) (numbered rs) false
-
-abbrev pub numberOf : Fault → ℕ
-numberOf (Breaks number first second) = number
-numberOf None = 0
 
 -- so the number 0 says that none applies
 pub number-0 : (rs : List Rule) → numbered rs ≡ true → numberOf (firstOf rs) ≡ 0 → firstOf rs ≡ None

@@ -7,7 +7,8 @@ use native.Mathlib.Omega.{arith}
 use lib.IntN.{ℤ}
 use Rattle.points.specs.Points.{vertices}
 use Rattle.tables.specs.Size.{isSize}
-use Rattle.answers.specs.Order.{Passes, whole, never, firstOf, numbered, numberOf, number-0}
+use Rattle.answers.specs.Answer.{numberOf}
+use Rattle.answers.specs.Order.{Passes, whole, never, firstOf, numbered, number-0}
 use Rattle.answers.specs.declared.Fault.the-variants.{None}
 use Rattle.limits.specs.InOrder.{InOrder}
 use Rattle.pair.specs.Pair.{Paired, pair-none}

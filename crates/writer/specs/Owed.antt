@@ -12,8 +12,8 @@ use Rattle.points.specs.Points.{vertices}
 use Rattle.tables.specs.Tables.{mostVertices, mostFacets, mostCorners, facets}
 use Rattle.tables.specs.Size.{sized}
 use Rattle.limits.specs.Rules.{in-limits}
-use Rattle.answers.specs.Answer.{fault, refused, ofLength}
-use Rattle.answers.specs.Order.{firstOf, numbered, numberOf, number-0}
+use Rattle.answers.specs.Answer.{fault, refused, ofLength, numberOf}
+use Rattle.answers.specs.Order.{firstOf, numbered, number-0}
 use Rattle.answers.specs.declared.Fault.the-variants.{Breaks, None}
 use Rattle.answers.specs.declared.Answer.{Answer}
 use Rattle.limits.specs.InOrder.{limitRules, InOrder, none-limits, laid}
