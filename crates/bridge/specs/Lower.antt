@@ -11,7 +11,8 @@ use borrow.Author.Tests.{eqb-true, eqb-false, eq-eqb, ltb-true, leb-false, lt-le
 use Rattle.whole.specs.First.{any-is, any-none, any-false, firstBelow, first-holds}
 use Rattle.whole.specs.Count.{is-false}
 use Rattle.points.specs.Points.{vertices}
-use Rattle.tables.specs.Tables.{facets, begin, sides, facetOf, cornerOf, homeOf, from, isAt, again}
+use Rattle.tables.specs.Tables.{facets, begin, sides, facetOf, cornerOf, homeOf, from}
+use Rattle.names.specs.Rules.{isAt, again}
 use Rattle.tables.specs.Size.{Laid, SizePassed, isSize, sized}
 use Rattle.tables.specs.Places.{Sound, Single, home-is, corner-at, place-in, place-below}
 use Rattle.limits.specs.Rules.{wild, index}

@@ -4,10 +4,16 @@ use mathlib.Core.List.{List}
 use Prim.Native.Nat.{ℕ}
 use lib.ListN.{length}
 use Rattle.whole.specs.First.{anyBelow}
-use Rattle.tables.specs.Tables.{isAt, again}
 use Rattle.tables.specs.Found.{lowest}
 use Rattle.tables.specs.Facets.{inFacets}
 use Rattle.tables.specs.declared.Found.{Found}
+
+-- v stands at position p of a part, and the corner at p stands at an earlier position too
+abbrev pub isAt : List ℕ → ℕ → ℕ → Bool
+isAt part v p = eqb (getD part p 0) v
+
+abbrev pub again : List ℕ → ℕ → Bool
+again part p = anyBelow (isAt part (getD part p 0)) p
 
 -- "a facet names a vertex again", at the position of the repeat
 abbrev pub repeat : List ℕ → List ℕ → Found

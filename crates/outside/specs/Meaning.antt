@@ -11,7 +11,8 @@ use Rattle.whole.specs.First.{firstBelow, anyBelow, any-is, first-holds}
 use Rattle.whole.specs.Count.{is-false}
 use Rattle.points.specs.Points.{vertices}
 use Rattle.sides.specs.Sides.{inside-below, below-inside}
-use Rattle.tables.specs.Tables.{facets, facetOf, isAt}
+use Rattle.tables.specs.Tables.{facets, facetOf}
+use Rattle.names.specs.Rules.{isAt}
 use Rattle.tables.specs.Size.{Laid}
 use Rattle.tables.specs.Places.{part-length}
 use Rattle.tables.specs.Found.{first-none, no-place-is}

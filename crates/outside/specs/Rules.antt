@@ -7,7 +7,8 @@ use lib.ListN.{length}
 use Rattle.whole.specs.First.{anyBelow}
 use Rattle.points.specs.Points.{vertices}
 use Rattle.sides.specs.Sides.{isInside}
-use Rattle.tables.specs.Tables.{facets, facetOf, isAt}
+use Rattle.tables.specs.Tables.{facets, facetOf}
+use Rattle.names.specs.Rules.{isAt}
 use Rattle.tables.specs.Found.{firstPlace}
 use Rattle.tables.specs.declared.Found.{Found}
 use Rattle.flat.specs.Rules.{sideAt}

@@ -3,7 +3,8 @@ use mathlib.Core.List.{List, [], _∷_, _++_}
 use Prim.Native.Nat.{ℕ, _+_}
 use lib.IntN.{ℤ}
 use Rattle.points.specs.Points.{vertices}
-use Rattle.tables.specs.Tables.{facets, begin, sides, again}
+use Rattle.tables.specs.Tables.{facets, begin, sides}
+use Rattle.names.specs.Rules.{again}
 use Rattle.tables.specs.Facets.{onFacets}
 use Rattle.answers.specs.Order.{Rule, rule, each, within}
 use Rattle.limits.specs.InOrder.{limitRules}

@@ -59,13 +59,6 @@ cornerOf corners begins f p = getD (facetOf corners begins f) p 0
 abbrev pub nextPosition : ℕ → ℕ → ℕ
 nextPosition n p = cond (eqb (p + 1) n) 0 (p + 1)
 
--- v stands at position p of a part, and the corner at p stands at an earlier position too
-abbrev pub isAt : List ℕ → ℕ → ℕ → Bool
-isAt part v p = eqb (getD part p 0) v
-
-abbrev pub again : List ℕ → ℕ → Bool
-again part p = anyBelow (isAt part (getD part p 0)) p
-
 -- ---- places of the run: a facet's position p is place `begin + p`
 
 -- the facet of a place: the first that ends after it

@@ -4,7 +4,7 @@ use borrow.Author.Tests.{lt-ltb, le-ltb}
 use Prim.Native.Nat.{_-_, _≤_}
 use lib.ListN.{length}
 use Rattle.whole.specs.First.{None, none-0, none-more, found, none}
-use Rattle.tables.specs.Tables.{again}
+use Rattle.names.specs.Rules.{again}
 use Rattle.names.proofs.first_again.Statement.{statement}
 use Rattle.names.proofs.first_again.Tie as tie
 

@@ -3,7 +3,7 @@ use borrow.Author.Needs.{needs}
 use borrow.Author.Tests.{eq-eqb, ne-eqb}
 use Prim.Native.Nat.{_-_, _≤_}
 use Rattle.whole.specs.First.{None, none-0, none-more, found, none}
-use Rattle.tables.specs.Tables.{isAt}
+use Rattle.names.specs.Rules.{isAt}
 use Rattle.names.proofs.first_at.Statement.{statement}
 use Rattle.names.proofs.first_at.Tie as tie
 

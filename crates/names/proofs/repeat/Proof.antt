@@ -3,7 +3,7 @@ use borrow.Author.Needs.{needs}
 use native.Mathlib.Omega.{arith}
 use Prim.Native.Nat.{_-_, _≤_}
 use Rattle.tables.specs.Facets.{Clear, clear-0, clear-hit, clear-more, clear-all}
-use Rattle.tables.specs.Tables.{again}
+use Rattle.names.specs.Rules.{again}
 use Rattle.names.proofs.repeat.Statement.{statement}
 use Rattle.names.proofs.repeat.Tie as tie
 
