@@ -2,7 +2,8 @@
 use mathlib.Core.Bool.{Bool, not}
 use mathlib.Core.List.{List}
 use Prim.Native.Nat.{ℕ}
-use lib.ListN.{length}
+use lib.Dec.{eqb}
+use lib.ListN.{length, getD}
 use Rattle.whole.specs.First.{anyBelow}
 use Rattle.tables.specs.Found.{lowest}
 use Rattle.tables.specs.Facets.{inFacets}

@@ -5,7 +5,7 @@ use mathlib.Core.Bool.{Bool, cond}
 use mathlib.Core.List.{List}
 use lib.Dec.{ltb, eqb}
 use lib.ListN.{length, getD, take, drop}
-use Rattle.whole.specs.First.{firstBelow, anyBelow}
+use Rattle.whole.specs.First.{firstBelow}
 
 -- "Vertices V: 4 to 1,024. Facets F: 4 to 2,048. Corners in all: at most 6,144", "facets of 3 to 12 corners"
 abbrev pub leastVertices : ℕ
