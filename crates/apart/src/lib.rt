@@ -43,7 +43,9 @@ fn spread(
     let mut p = tables::wide(begins[f]);
     let end = tables::wide(begins[f + 1]);
     while p < end {
-        n = push(queue, n, index::home_at(edges, index::across_at(edges, p)));
+        let q = index::across_at(edges, p);
+        let g = index::home_at(edges, q);
+        n = push(queue, n, g);
         p += 1;
     }
     n

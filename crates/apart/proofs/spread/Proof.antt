@@ -23,18 +23,19 @@ loop-holds c =
     visiting-0 (w .before .before .before .before .pre) (w .wide .ensures .is) (c .wide2 .ensures .is)
 
 home-at-requires : tie.Need-home-at-requires Inv-loop μ-loop
-home-at-requires c κs = visit-across (c .before .before .before .loop .inv) (omega arith) (c .across-at .ensures)
+home-at-requires c κs = visit-across (c .before .before .loop .inv) (omega arith) (c .across-at .ensures)
 
 push-requires : tie.Need-push-requires Inv-loop μ-loop
 push-requires c κs =
-    let a = c .before in
-    visit-pushing (a .before .before .before .loop .inv) (omega arith) (a .across-at .ensures) (c .home-at .ensures)
+    let h = c .before in
+    let a = h .before in
+    visit-pushing (a .before .before .loop .inv) (omega arith) (a .across-at .ensures) (h .home-at .ensures)
 
 loop-again : tie.Need-loop-again Inv-loop μ-loop
 loop-again c =
-    let h = c .before in
+    let h = c .before .before in
     let a = h .before in
-    visiting-more (a .before .before .before .loop .inv) (omega arith) (a .across-at .ensures) (h .home-at .ensures) (c .push .ensures)
+    visiting-more (a .before .before .loop .inv) (omega arith) (a .across-at .ensures) (h .home-at .ensures) (c .push .ensures)
 
 pub spread-spec : {M : Type 1} → statement M
 spread-spec =
@@ -50,7 +51,7 @@ spread-spec =
     end-read
     (λ c κs. search needs)
     loop-holds
-    (λ c κs. visit-small (c .before .before .loop .inv) (omega arith))
+    (λ c κs. visit-small (c .before .loop .inv) (omega arith))
     home-at-requires
     push-requires
     (λ c. omega arith)
