@@ -79,12 +79,11 @@ module _ {points : List ℤ} {corners begins : List ℕ} {edges : List (List ℕ
     pub own-facet : Facet points part
     own-facet = rw (N .part-is) (facet (N .tables .measured) (N .facet-in))
 
-    module _ (l : p < length part) where
-      pub corner-small : getD part p 0 < mostVertices
-      corner-small = omega (arith, own-facet .named p l, N .tables .measured .sound .named .few)
+    pub corner-small : {i : ℕ} → i < length part → getD part i 0 < mostVertices
+    corner-small {i} l = omega (arith, own-facet .named i l, N .tables .measured .sound .named .few)
 
-      pub chaining-0 : Chaining points corners begins edges heads f part p (headAt heads (getD part p 0))
-      chaining-0 = record { nearing = N; here = l; seeking = seeking-0 (leaves-each (N .tables .indexed)) (λ q e. rw e) corner-small }
+    pub chaining-0 : p < length part → Chaining points corners begins edges heads f part p (headAt heads (getD part p 0))
+    chaining-0 l = record { nearing = N; here = l; seeking = seeking-0 (leaves-each (N .tables .indexed)) (λ q e. rw e) (corner-small l) }
 
     pub nearing-none : length part ≤ p → false ≡ nearFacet points corners begins f
     nearing-none h = rw (← N .part-is) (any-miss (N .none-yet) (N .upto) h)
