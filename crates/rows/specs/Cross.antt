@@ -8,7 +8,7 @@ use Rattle.space.specs.Plane.{vec, det}
 use Rattle.space.specs.Rows.{Minor, Row, ExactRow, longest, widest, broadest, crossOf}
 
 -- columns j and k
-pub record Part (p q : List ℤ) (j k : ℕ) (r : ℤ) : Type 0 where
+pub record MinorAt (p q : List ℤ) (j k : ℕ) (r : ℤ) : Type 0 where
   pub exact : Exact broadest (det (vec (getD p j (pos 0)) (getD p k (pos 0))) (vec (getD q j (pos 0)) (getD q k (pos 0)))) r
   pub small : Row longest p → Minor r
 

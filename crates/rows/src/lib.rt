@@ -5,12 +5,12 @@ ghost use Rattle.whole.specs.Bounds.{Exact};
 ghost use Rattle.space.specs.Vectors.{_·_};
 ghost use Rattle.space.specs.Rows.{Row, Rows, longest, widest, broadest, largest, vecOf, detOf};
 ghost use Rattle.space.specs.Nought.{isNought};
-ghost use Rattle.rows.specs.Cross.{Part, Crossed};
+ghost use Rattle.rows.specs.Cross.{MinorAt, Crossed};
 
 // The determinant of columns j and k of two rows, the first of a normal or a step, the second of a step.
-fn part(p: [i64; 3], q: [i64; 3], j: usize, k: usize) -> i64
+fn minor_at(p: [i64; 3], q: [i64; 3], j: usize, k: usize) -> i64
     requires { ⌜ Row widest p × Row longest q × (j < 3) × (k < 3) ⌝ }
-    ensures { λ r. ⌜ Part p q j k r ⌝ }
+    ensures { λ r. ⌜ MinorAt p q j k r ⌝ }
 {
     space::minor(p[j], p[k], q[j], q[k])
 }
@@ -20,7 +20,11 @@ pub fn cross(p: [i64; 3], q: [i64; 3]) -> [i64; 3]
     requires { ⌜ Row widest p × Row longest q ⌝ }
     ensures { λ r. ⌜ Crossed p q r ⌝ }
 {
-    [part(p, q, 1, 2), part(p, q, 2, 0), part(p, q, 0, 1)]
+    [
+        minor_at(p, q, 1, 2),
+        minor_at(p, q, 2, 0),
+        minor_at(p, q, 0, 1),
+    ]
 }
 
 // The sum of the products of two rows.

@@ -11,9 +11,9 @@ use Rattle.rows.proofs.cross.Tie as tie
 returns : tie.Need-returns
 unfolding det
 returns c =
-    let x = c .before .before .part .ensures in
-    let y = c .before .part2 .ensures in
-    let z = c .part3 .ensures in
+    let x = c .before .before .minor-at .ensures in
+    let y = c .before .minor-at2 .ensures in
+    let z = c .minor-at3 .ensures in
     record {
       exact = exact-row (exact-read w64 (x .exact) tt) (exact-read w64 (y .exact) tt) (exact-read w64 (z .exact) tt);
       small = λ h. row-of (read-within w64 (x .small h) tt) (read-within w64 (y .small h) tt) (read-within w64 (z .small h) tt);

@@ -1,10 +1,10 @@
--- `rows::part` meets its contract. Each number is bounded, so it is handed over as it is. Assumes nothing.
+-- `rows::minor_at` meets its contract. Each number is bounded, so it is handed over as it is. Assumes nothing.
 use borrow.Author.Needs.{needs}
 use mathlib.Core.Path.{_∙_}
 use mir.Syntax.{w64}
 use Rattle.whole.specs.Machine.{read-is, read-within, exact-read}
-use Rattle.rows.proofs.part.Statement.{statement}
-use Rattle.rows.proofs.part.Tie as tie
+use Rattle.rows.proofs.minor_at.Statement.{statement}
+use Rattle.rows.proofs.minor_at.Tie as tie
 
 minor-requires : tie.Need-minor-requires
 minor-requires c κs =
@@ -30,8 +30,8 @@ returns c =
       small = λ h. read-within w64 (c .minor .ensures .small (read-within w64 (h .at j) tt) (read-within w64 (h .at k) tt)) tt;
     }
 
-pub part-spec : {M : Type 1} → statement M
-part-spec =
+pub minor-at-spec : {M : Type 1} → statement M
+minor-at-spec =
     tie.close
     (tie.spec
     (λ c. search needs)
