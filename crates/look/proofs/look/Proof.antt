@@ -1,5 +1,4 @@
 -- `look::look` meets its contract. Assumes nothing.
-use borrow.Author.Needs.{needs}
 use borrow.Author.Tests.{lt-ltb, le-ltb, le-leb, lt-leb, eq-eqb, ne-eqb}
 use native.Mathlib.Omega.{arith}
 use Rattle.tape.specs.Reading.{lookAt}
@@ -73,13 +72,13 @@ look-spec =
     tie.close
     (tie.spec
     returns
-    (λ c. search needs)
+    (λ c. omega arith)
     cast-kind
-    (λ c κs. search needs)
+    (λ c κs. omega arith)
     returns-2
-    (λ c κs. search needs)
+    (λ c κs. omega arith)
     returns-3
     returns-4
     returns-5
-    (λ c κs. search needs)
+    (λ c κs. (omega arith, omega arith, omega arith))
     returns-6)

@@ -1,10 +1,10 @@
 -- `look::look_end` meets its contract. Assumes nothing.
-use borrow.Author.Needs.{needs}
 use mathlib.Core.Path.{_≡_, sym, _∙_}
 use mathlib.Core.Bool.{cond}
 use Prim.Native.Nat.{_+_, _-_}
 use lib.Dec.{ltb}
 use lib.ListN.{length}
+use native.Mathlib.Omega.{arith}
 use borrow.Author.Tests.{lt-ltb, le-ltb, eq-eqb, ne-eqb}
 use Rattle.tape.specs.Reading.{endAt}
 use Rattle.tape.specs.declared.Next.the-variants.{End, Bad}
@@ -57,16 +57,16 @@ pub look-end-spec : {M : Type 1} → statement M
 look-end-spec =
     tie.close
     (tie.spec
-    (λ c. search needs)
+    (λ c. omega arith)
     returns
-    (λ c. search needs)
-    (λ c κs. search needs)
-    (λ c. search needs)
+    (λ c. omega arith)
+    (λ c κs. omega arith)
+    (λ c. omega arith)
     returns-2
-    (λ c. search needs)
-    (λ c κs. search needs)
-    (λ c. search needs)
+    (λ c. omega arith)
+    (λ c κs. omega arith)
+    (λ c. omega arith)
     returns-3
-    (λ c. search needs)
+    (λ c. omega arith)
     returns-4
     returns-5)

@@ -1,5 +1,5 @@
 -- `look::look_facet` meets its contract. Assumes nothing.
-use borrow.Author.Needs.{needs}
+use native.Mathlib.Omega.{arith}
 use borrow.Author.Tests.{lt-ltb, le-ltb, le-leb, lt-leb}
 use Rattle.look.proofs.look_facet.Statement.{statement}
 use Rattle.look.proofs.look_facet.Tie as tie
@@ -21,10 +21,10 @@ look-facet-spec =
     tie.close
     (tie.spec
     returns
-    (λ c. search needs)
+    (λ c. omega arith)
     returns-2
-    (λ c. search needs)
-    (λ c. search needs)
-    (λ c. search needs)
+    (λ c. omega arith)
+    (λ c. omega arith)
+    (λ c. omega arith)
     returns-3
     returns-4)

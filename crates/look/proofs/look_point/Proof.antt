@@ -1,5 +1,5 @@
 -- `look::look_point` meets its contract. Assumes nothing.
-use borrow.Author.Needs.{needs}
+use native.Mathlib.Omega.{arith}
 use borrow.Author.Tests.{lt-ltb, le-ltb, le-leb, lt-leb}
 use Rattle.look.proofs.look_point.Statement.{statement}
 use Rattle.look.proofs.look_point.Tie as tie
@@ -17,4 +17,4 @@ returns-4 : tie.Need-returns-4
 returns-4 c = simp (le-ltb _ _ (c .before .before .if1 .left), lt-leb _ _ (c .before .if2 .left), le-ltb _ _ (c .if3 .left))
 
 pub look-point-spec : {M : Type 1} → statement M
-look-point-spec = tie.close (tie.spec returns returns-2 (λ c. search needs) returns-3 returns-4)
+look-point-spec = tie.close (tie.spec returns returns-2 (λ c. omega arith) returns-3 returns-4)

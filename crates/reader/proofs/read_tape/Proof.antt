@@ -84,7 +84,8 @@ returns-2 c =
     let g = c .before .before .before .before in
     let p = filled g in
     let t = asked p in
-    accepting _ _ _ _ (as-read (e t) (is-read t)) (p .before .fill-points .ensures) (g .fill-facets .ensures .0) (g .fill-facets .ensures .1)
+    let (run, starts) = g .fill-facets .ensures in
+    accepting _ _ _ _ (as-read (e t) (is-read t)) (p .before .fill-points .ensures) run starts
 
 returns-3 : tie.Need-returns-3
 returns-3 c =

@@ -43,14 +43,14 @@ put-facets-spec =
     (λ c. facet-0 (c .before .before .before .pre))
     (λ c κs. (c .before .loop .inv .asked .laid, c .loop-test .taken))
     -- put_facet: the window of the buffer, requires
-    (λ c. let t = here c in let i = l c .loop .inv in omega arith)
-    (λ c. let t = here c in let i = l c .loop .inv in omega arith)
+    (λ c. let t = here c in omega arith)
+    (λ c. let t = here c in omega arith)
     (λ c. search needs)
-    (λ c κs. let t = here (c .before) in let i = l (c .before) .loop .inv in rw length-window (omega arith, omega arith))
+    (λ c κs. let t = here (c .before) in rw length-window (omega arith, omega arith))
     -- the next facet
-    (λ c. let t = here (turned c) in let i = l (turned c) .loop .inv in omega arith)
-    (λ c. let t = here (turned c) in let i = l (turned c) .loop .inv in omega arith)
-    (λ c. let t = here (turned c) in let i = l (turned c) .loop .inv in omega arith)
+    (λ c. let t = here (turned c) in omega arith)
+    (λ c. let t = here (turned c) in omega arith)
+    (λ c. let t = here (turned c) in omega arith)
     (λ c. omega arith)
     (λ c. omega arith)
     loop-again

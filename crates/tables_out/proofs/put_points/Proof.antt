@@ -47,7 +47,6 @@ module _ (c : tie.After-coord3 Inv-loop μ-loop) where
 put-point-requires : tie.Need-put-point-requires Inv-loop μ-loop
 put-point-requires c κs =
     let b = c .before in
-    let i = l b .loop .inv in
     record {
       room = rw length-window (omega arith);
       fits-x = rw (read-x b) (fits b 0 (lit< tt));
