@@ -1,7 +1,12 @@
--- "Answer numbers of the solid judge": the record that judge and walk share. Assumes nothing.
+-- "Answer numbers of the solid judge": the record that judge, walk, writer and programs share, by kinds of answer. Assumes nothing.
+use mathlib.Core.Path.{_≡_, refl}
+use mathlib.Core.List.{List}
 use Prim.Native.Nat.{ℕ}
-use Rattle.tables.specs.declared.Found.{Found}
-use Rattle.tables.specs.declared.Found.the-variants.{At, Nothing}
+use lib.IntN.{ℤ}
+use Rattle.points.specs.Points.{vertices}
+use Rattle.tables.specs.Tables.{facets, edges}
+use Rattle.answers.specs.declared.Fault.{Fault}
+use Rattle.answers.specs.declared.Fault.the-variants.{Breaks, None}
 use Rattle.answers.specs.declared.Answer.{Answer}
 
 -- "accepted: V, E, F"
@@ -9,10 +14,39 @@ abbrev pub accepted : ℕ → ℕ → ℕ → Answer
 accepted v e f = record { number = 0; first = v; second = e; third = f }
 
 -- "Unused places are 0; the number tells which are used"
-abbrev pub refused : ℕ → ℕ → ℕ → Answer
-refused number first second = record { number = number; first = first; second = second; third = 0 }
+abbrev pub fault : ℕ → ℕ → ℕ → Answer
+fault number first second = record { number = number; first = first; second = second; third = 0 }
 
--- "The lowest number that applies anywhere in the tables wins": the number at its first place, or the answer of the numbers after it
-abbrev pub orElse : ℕ → Found → Answer → Answer
-orElse number (At first second) later = refused number first second
-orElse number Nothing later = later
+-- a refusal that has no place
+abbrev pub refused : ℕ → Answer
+refused number = fault number 0 0
+
+-- "For a reader's refusal the first place is the offset."
+abbrev pub atOffset : ℕ → ℕ → Answer
+atOffset number offset = fault number offset 0
+
+-- no refusal, where there is nothing to name
+abbrev pub passed : Answer
+passed = accepted 0 0 0
+
+-- "Otherwise it gives the length"
+abbrev pub ofLength : ℕ → Answer
+ofLength length = accepted length 0 0
+
+-- the record of the first fault, or else a later answer
+abbrev pub faultOr : Fault → Answer → Answer
+faultOr (Breaks number first second) later = fault number first second
+faultOr None later = later
+
+-- the judge's record, from the tables
+abbrev pub answerOf : List ℤ → List ℕ → List ℕ → Fault → Answer
+answerOf points corners begins first = faultOr first (accepted (vertices points) (edges corners) (facets begins))
+
+-- its number: that of the first fault, or 0
+abbrev pub numberOf : Fault → ℕ
+numberOf (Breaks number first second) = number
+numberOf None = 0
+
+pub answer-number : (points : List ℤ) (corners begins : List ℕ) (first : Fault) → answerOf points corners begins first .number ≡ numberOf first
+answer-number points corners begins (Breaks number first second) = refl
+answer-number points corners begins None = refl

@@ -1,2 +1,3 @@
--- The judge's record, which walk, writer and programs share.
+-- The answer record, and the order of the rules.
 pub mod Answer
+pub mod Order

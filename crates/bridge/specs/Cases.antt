@@ -46,23 +46,29 @@ case-G : pair (0 ∷ 2 ∷ 1 ∷ 0 ∷ 1 ∷ 3 ∷ 0 ∷ 3 ∷ 2 ∷ 1 ∷ 3 ∷
 unfolding firstBelow countBelow lastBelow homeOf nextOf
 case-G = refl
 
-case-I : Finds 7 (0 ∷ 1 ∷ 5 ∷ 1 ∷ 2 ∷ 5 ∷ 2 ∷ 3 ∷ 5 ∷ 3 ∷ 4 ∷ 5 ∷ 4 ∷ 0 ∷ 5 ∷ 1 ∷ 0 ∷ 6 ∷ 2 ∷ 1 ∷ 6 ∷ 3 ∷ 2 ∷ 6 ∷ 4 ∷ 3 ∷ 6 ∷ 0 ∷ 4 ∷ 6 ∷ [])
+case-I : Finds 7
+    (0 ∷ 1 ∷ 5 ∷ 1 ∷ 2 ∷ 5 ∷ 2 ∷ 3 ∷ 5 ∷ 3 ∷ 4 ∷ 5 ∷ 4 ∷ 0 ∷ 5 ∷ 1 ∷ 0 ∷ 6 ∷ 2 ∷ 1 ∷ 6 ∷ 3 ∷ 2 ∷ 6 ∷ 4 ∷ 3 ∷ 6 ∷ 0 ∷ 4 ∷ 6 ∷ [])
     (0 ∷ 3 ∷ 6 ∷ 9 ∷ 12 ∷ 15 ∷ 18 ∷ 21 ∷ 24 ∷ 27 ∷ 30 ∷ []) Nothing Nothing Nothing
 unfolding firstBelow countBelow lastBelow iterate tab rounds homeOf nextOf acrossOf roundOf flooded
 case-I = record { in-pair = refl; in-ring = refl; in-apart = refl }
 
 -- two solids that share vertex 0: "RING there, not APART", since RING comes first
-shared : Finds 7 (0 ∷ 2 ∷ 1 ∷ 0 ∷ 1 ∷ 3 ∷ 0 ∷ 3 ∷ 2 ∷ 1 ∷ 2 ∷ 3 ∷ 0 ∷ 5 ∷ 4 ∷ 0 ∷ 4 ∷ 6 ∷ 0 ∷ 6 ∷ 5 ∷ 4 ∷ 5 ∷ 6 ∷ []) eight Nothing (At 0 0) (At 4 0)
+shared : Finds 7
+    (0 ∷ 2 ∷ 1 ∷ 0 ∷ 1 ∷ 3 ∷ 0 ∷ 3 ∷ 2 ∷ 1 ∷ 2 ∷ 3 ∷ 0 ∷ 5 ∷ 4 ∷ 0 ∷ 4 ∷ 6 ∷ 0 ∷ 6 ∷ 5 ∷ 4 ∷ 5 ∷ 6 ∷ [])
+    eight Nothing (At 0 0) (At 4 0)
 unfolding firstBelow countBelow lastBelow iterate tab rounds homeOf nextOf acrossOf roundOf flooded
 shared = record { in-pair = refl; in-ring = refl; in-apart = refl }
 
 -- two solids that share nothing
-separate : Finds 8 (0 ∷ 2 ∷ 1 ∷ 0 ∷ 1 ∷ 3 ∷ 0 ∷ 3 ∷ 2 ∷ 1 ∷ 2 ∷ 3 ∷ 4 ∷ 6 ∷ 5 ∷ 4 ∷ 5 ∷ 7 ∷ 4 ∷ 7 ∷ 6 ∷ 5 ∷ 6 ∷ 7 ∷ []) eight Nothing Nothing (At 4 0)
+separate : Finds 8
+    (0 ∷ 2 ∷ 1 ∷ 0 ∷ 1 ∷ 3 ∷ 0 ∷ 3 ∷ 2 ∷ 1 ∷ 2 ∷ 3 ∷ 4 ∷ 6 ∷ 5 ∷ 4 ∷ 5 ∷ 7 ∷ 4 ∷ 7 ∷ 6 ∷ 5 ∷ 6 ∷ 7 ∷ [])
+    eight Nothing Nothing (At 4 0)
 unfolding firstBelow countBelow lastBelow iterate tab rounds homeOf nextOf acrossOf roundOf flooded
 separate = record { in-pair = refl; in-ring = refl; in-apart = refl }
 
 -- T with a vertex 4 on an edge: the two facets there make a ring
-ring-of-two : Finds 5 (0 ∷ 2 ∷ 1 ∷ 4 ∷ 0 ∷ 4 ∷ 1 ∷ 3 ∷ 0 ∷ 3 ∷ 2 ∷ 1 ∷ 2 ∷ 3 ∷ []) (0 ∷ 4 ∷ 8 ∷ 11 ∷ 14 ∷ []) Nothing Nothing Nothing
+ring-of-two : Finds 5
+    (0 ∷ 2 ∷ 1 ∷ 4 ∷ 0 ∷ 4 ∷ 1 ∷ 3 ∷ 0 ∷ 3 ∷ 2 ∷ 1 ∷ 2 ∷ 3 ∷ []) (0 ∷ 4 ∷ 8 ∷ 11 ∷ 14 ∷ []) Nothing Nothing Nothing
 unfolding firstBelow countBelow lastBelow iterate tab rounds homeOf nextOf acrossOf roundOf flooded
 ring-of-two = record { in-pair = refl; in-ring = refl; in-apart = refl }
 

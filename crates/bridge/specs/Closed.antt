@@ -45,18 +45,20 @@ module _ (points : List ℤ) {corners begins : List ℕ} (S : Sound (vertices po
   runs-at l = record { names = record { below = l; facet = refl; starts = refl }; ends = refl }
 
   module _ (P : Paired corners begins) where
-    runs-across : {p : ℕ} → p < length corners → Runs corners begins (homeOf begins (acrossOf corners begins p)) (to corners begins p) (from corners p) (acrossOf corners begins p)
+    runs-across : {p : ℕ} → p < length corners
+        → Runs corners begins (facetAcross corners begins p) (to corners begins p) (from corners p) (acrossOf corners begins p)
     runs-across l = let r = across P l in record { names = record { below = r .below; facet = refl; starts = r .starts }; ends = r .ends }
 
     -- the edge at a place, and the one across
     edge : {p : ℕ} → p < length corners → Edge T (homeOf begins p) (from corners p) (to corners begins p)
     edge l = runs-edge points laid (runs-at l)
 
-    opposite : {p : ℕ} → p < length corners → Edge T (homeOf begins (acrossOf corners begins p)) (to corners begins p) (from corners p)
+    opposite : {p : ℕ} → p < length corners → Edge T (facetAcross corners begins p) (to corners begins p) (from corners p)
     opposite l = runs-edge points laid (runs-across l)
 
     around : {v p : ℕ} → p < length corners → from corners p ≡ v → (j : ℕ)
-        → let q = iterate (roundOf corners begins) j p in (q < length corners) × (from corners q ≡ v) × Around (Edge T) v (homeOf begins p) (homeOf begins q)
+        → let q = iterate (roundOf corners begins) j p in
+        (q < length corners) × (from corners q ≡ v) × Around (Edge T) v (homeOf begins p) (homeOf begins q)
     unfolding iterate
     around l e zero = (l, e, here)
     around l e (suc j) =
@@ -92,12 +94,14 @@ module _ (points : List ℤ) {corners begins : List ℕ} (S : Sound (vertices po
         no-repeat = λ p q e.
             let a = place-names points laid p in
             let b = place-names points laid q in
-            same-place p q (repeat-single laid (N .no-4) .repeats _ _ (a .below) (b .below) (a .facet ∙ sym (b .facet)) (a .starts ∙ e ∙ sym (b .starts))) .1;
+            let one = repeat-single laid (N .no-4) in
+            same-place p q (one .repeats _ _ (a .below) (b .below) (a .facet ∙ sym (b .facet)) (a .starts ∙ e ∙ sym (b .starts))) .1;
         used = λ w l. let (p, b, e) = U .somewhere w l in (homeOf begins p, names-corner points laid (record { below = b; facet = refl; starts = e }));
         once = λ p q e s.
             let a = place-runs points laid p in
             let b = place-runs points laid q in
-            same-place p q (edge-once P (a .names .below) (b .names .below) (a .names .starts ∙ e ∙ sym (b .names .starts)) (a .ends ∙ s ∙ sym (b .ends)));
+            let starts = a .names .starts ∙ e ∙ sym (b .names .starts) in
+            same-place p q (edge-once P (a .names .below) (b .names .below) starts (a .ends ∙ s ∙ sym (b .ends)));
         reverse = λ p. let a = place-runs points laid p in (_, rw (a .names .starts, a .ends) at (opposite P (a .names .below)));
         ring = λ v l. one-ring P l U (ring-means laid P (vertices points) (N .no-7) v l);
         reached = λ f l. linked P (apart-means laid P (N .no-8) f l);
@@ -173,7 +177,9 @@ module _ (points : List ℤ) {corners begins : List ℕ} (S : Sound (vertices po
         let R = C .ring v l in
         let (p, n) = corner-names points laid (R .at-start) in
         ring-from laid (P C) v (n .below) (n .starts)
-        (λ q b s. let m : Names corners begins (homeOf begins q) v q = record { below = b; facet = refl; starts = s } in stepped C n (R .reached (names-corner points laid m)) m));
+        (λ q b s.
+        let m : Names corners begins (homeOf begins q) v q = record { below = b; facet = refl; starts = s } in
+        stepped C n (R .reached (names-corner points laid m)) m));
     no-8 = means-apart laid (P C) (λ f l. unlinked C (C .reached f l));
   }
 

@@ -33,21 +33,25 @@ sound {n} {corners} {begins} S e = record {
     below : {p : ℕ} → Position corners begins p → from corners p < n
     below {p} o =
         let f = homeOf begins p in
-        rw (o .corner) at (leb-false n (cornerOf corners begins f (o .at)) (first-none (facets begins) (sides begins) (onFacets corners begins (wild n)) e f (o .at) (o .facet) (o .side)))
+        let tame = first-none (facets begins) (sides begins) (onFacets corners begins (wild n)) e f (o .at) (o .facet) (o .side) in
+        rw (o .corner) at (leb-false n (cornerOf corners begins f (o .at)) tame)
 
 pub sound-index : {n : ℕ} {corners begins : List ℕ} → Sound n corners begins → index n corners begins ≡ Nothing
 sound-index {n} {corners} {begins} S =
-    no-place-is (λ f p l h. lt-leb n (cornerOf corners begins f p) (rw (corner-at (S .laid) l h) (S .named .index (begin begins f + p) (place-below (S .laid) l h))))
+    no-place-is (λ f p l h.
+    let below = S .named .index (begin begins f + p) (place-below (S .laid) l h) in
+    lt-leb n (cornerOf corners begins f p) (rw (corner-at (S .laid) l h) below))
 
 -- from the points and SIZE
-pub all-sound : (points : List ℤ) {corners begins : List ℕ} → isSize points corners begins ≡ false → index (vertices points) corners begins ≡ Nothing
-    → Sound (vertices points) corners begins
+pub all-sound : (points : List ℤ) {corners begins : List ℕ} → isSize points corners begins ≡ false
+    → index (vertices points) corners begins ≡ Nothing → Sound (vertices points) corners begins
 all-sound points {corners} {begins} e = sound (sized points corners begins e)
 
 -- ---- REPEAT: "a facet names a vertex again"
 
 module _ {corners begins : List ℕ} (L : Laid corners begins) where
-  differ : repeat corners begins ≡ Nothing → {p q : ℕ} → q < length corners → homeOf begins p ≡ homeOf begins q → from corners p ≡ from corners q → p < q → ⊥
+  differ : repeat corners begins ≡ Nothing → {p q : ℕ} → q < length corners → homeOf begins p ≡ homeOf begins q → from corners p ≡ from corners q
+      → p < q → ⊥
   differ e {p} {q} m h s b =
       let f = homeOf begins q in
       let o = position L {p = p} (omega arith) in
@@ -86,4 +90,6 @@ unused-used {n} {corners} e = record {
 }
 
 pub used-unused : {n : ℕ} {corners : List ℕ} → Used n corners → unused n corners ≡ Nothing
-used-unused {corners = corners} U = nowhere-is (λ v l. let (p, b, e) = U .somewhere v l in ap not (any-is (isAt corners v) (length corners) p b (eq-eqb _ _ e)))
+used-unused {corners = corners} U = nowhere-is (λ v l.
+    let (p, b, e) = U .somewhere v l in
+    ap not (any-is (isAt corners v) (length corners) p b (eq-eqb _ _ e)))

@@ -54,7 +54,11 @@ module _ (points : List ℤ) {corners begins : List ℕ} (L : Laid corners begin
   -- from positions to places
 
   pub place-names : {f i : ℕ} → Place T f i → Names corners begins f (T .corner f i) (begin begins f + i)
-  place-names p = record { below = place-below L (p .facet) (p .position); facet = place-home (p .facet) (p .position); starts = sym (corner-at L (p .facet) (p .position)) }
+  place-names p = record {
+    below = place-below L (p .facet) (p .position);
+    facet = place-home (p .facet) (p .position);
+    starts = sym (corner-at L (p .facet) (p .position));
+  }
 
   pub place-runs : {f i : ℕ} → Place T f i → Runs corners begins f (T .corner f i) (next T f i) (begin begins f + i)
   place-runs p = record { names = place-names p; ends = sym (follows (p .facet) (p .position)) }
@@ -68,7 +72,9 @@ module _ (points : List ℤ) {corners begins : List ℕ} (L : Laid corners begin
   -- and back
 
   pub names-place : {f v p : ℕ} → Names corners begins f v p → (i : ℕ) × Place T f i × (begin begins f + i ≡ p)
-  names-place n = let o = position L (n .below) in (o .at, record { facet = rw (n .facet) at (o .facet); position = rw (n .facet) at (o .side) }, rw (n .facet) at (o .is))
+  names-place n =
+      let o = position L (n .below) in
+      (o .at, record { facet = rw (n .facet) at (o .facet); position = rw (n .facet) at (o .side) }, rw (n .facet) at (o .is))
 
   pub names-corner : {f v p : ℕ} → Names corners begins f v p → Corner T f v
   names-corner n =
@@ -78,7 +84,12 @@ module _ (points : List ℤ) {corners begins : List ℕ} (L : Laid corners begin
   pub runs-edge : {f v w p : ℕ} → Runs corners begins f v w p → Edge T f v w
   runs-edge r =
       let (i, t, e) = names-place (r .names) in
-      record { i = i; place = t; from = sym (place-names t .starts) ∙ ap (from corners) e ∙ r .names .starts; to = sym (place-runs t .ends) ∙ ap (to corners begins) e ∙ r .ends }
+      record {
+        i = i;
+        place = t;
+        from = sym (place-names t .starts) ∙ ap (from corners) e ∙ r .names .starts;
+        to = sym (place-runs t .ends) ∙ ap (to corners begins) e ∙ r .ends;
+      }
 
 -- ---- what `solid` asks of 1 and 3
 

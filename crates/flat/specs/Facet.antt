@@ -2,10 +2,13 @@
 use mathlib.Core.List.{List}
 use Prim.Native.Nat.{ℕ, _≤_, _<_}
 use native.Mathlib.Omega.{arith}
+use mathlib.Core.Bool.{Bool}
 use lib.IntN.{ℤ}
 use lib.ListN.{length, getD}
 use Rattle.points.specs.Points.{vertices, Ranged, Vertex}
+use Rattle.sides.specs.Sides.{Three}
 use Rattle.tables.specs.Tables.{facets, sides, facetOf}
+use Rattle.tables.specs.Facets.{Clear}
 use Rattle.tables.specs.Places.{Sound, part-length, sides-some, sides-few, corner-at, place-below}
 
 pub record Facet (points : List ℤ) (part : List ℕ) : Type 0 where
@@ -14,12 +17,24 @@ pub record Facet (points : List ℤ) (part : List ℕ) : Type 0 where
   pub few : length part ≤ 12
   pub named : (p : ℕ) → p < length part → Vertex points (getD part p 0)
 
+-- the corners that its plane comes from
+pub first-three : {points : List ℤ} {part : List ℕ} → Facet points part → Three points (getD part 0 0) (getD part 1 0) (getD part 2 0)
+first-three f =
+    record { ranged = f .ranged; first = f .named 0 (omega arith); second = f .named 1 (omega arith); third = f .named 2 (omega arith) }
+
 -- tables that pass 1 to 3
 pub record Measured (points : List ℤ) (corners begins : List ℕ) : Type 0 where
   pub ranged : Ranged points
   pub sound : Sound (vertices points) corners begins
 
-pub facet : {points : List ℤ} {corners begins : List ℕ} → Measured points corners begins → {f : ℕ} → f < facets begins → Facet points (facetOf corners begins f)
+-- the loop over the facets has passed those before f, of m
+pub record Passing (points : List ℤ) (corners begins : List ℕ) (test : List ℕ → ℕ → Bool) (m f : ℕ) : Type 0 where
+  pub measured : Measured points corners begins
+  pub upto : f ≤ m
+  pub clear : Clear corners begins test f
+
+pub facet : {points : List ℤ} {corners begins : List ℕ} → Measured points corners begins → {f : ℕ} → f < facets begins
+    → Facet points (facetOf corners begins f)
 facet {points} {corners} {begins} m {f} l =
     let s = m .sound .laid in
     let e = part-length s l in

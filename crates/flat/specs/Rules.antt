@@ -8,11 +8,12 @@ use borrow.Author.Tests.{le-ltb, ne-eqb}
 use lib.Dec.{eqb, ltb}
 use lib.IntN.{ℤ}
 use lib.ListN.{length, getD}
-use Rattle.whole.specs.First.{firstBelow, None, none-0, none-more, found}
+use Rattle.whole.specs.First.{firstBelow, None, none-0, none-more, found, NoneYet}
 use Rattle.sides.specs.Sides.{sideOf, inLine, isOn}
 use Rattle.sides.specs.declared.Side.{Side}
 use Rattle.tables.specs.Facets.{inFacets}
 use Rattle.tables.specs.declared.Found.{Found}
+use Rattle.flat.specs.Facet.{Facet}
 
 -- "A facet's plane comes from its first three corners a, b, c"
 abbrev pub sideAt : List ℤ → List ℕ → ℕ → Side
@@ -43,11 +44,18 @@ module _ (points : List ℤ) (part : List ℕ) where
   bent-later {p} l = rw (le-ltb p 2 (omega arith), ne-eqb p 2 (omega arith))
 
   -- where the loop over the later corners begins, and where it isn't reached
-  pub in-line-at : 3 ≤ length part → inLine points (getD part 0 0) (getD part 1 0) (getD part 2 0) ≡ true → 2 ≡ firstBelow (isBent points part) (length part)
+  pub in-line-at : 3 ≤ length part → inLine points (getD part 0 0) (getD part 1 0) (getD part 2 0) ≡ true
+      → 2 ≡ firstBelow (isBent points part) (length part)
   in-line-at l e = found bent-start (bent-third ∙ e) (omega arith)
 
   pub not-in-line : inLine points (getD part 0 0) (getD part 1 0) (getD part 2 0) ≡ false → None (isBent points part) 3
   not-in-line e = none-more bent-start (bent-third ∙ e)
+
+  -- the loop over the later corners has passed those before p
+  pub record Unbent (p : ℕ) : Type 0 where
+    pub facet : Facet points part
+    pub later : 3 ≤ p
+    pub yet : NoneYet (isBent points part) (length part) p
 
   -- BENT finds nothing in a facet
   pub no-bend : isBent points part 2 ≡ false → ((p : ℕ) → 3 ≤ p → p < length part → isOn (sideAt points part (getD part p 0)) ≡ true)

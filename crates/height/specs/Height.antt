@@ -21,17 +21,16 @@ way d = vec (d .x) (d .y) (d .z)
 abbrev pub height : List ℤ → Direction → ℕ → ℤ
 height points d v = way d · point points v
 
--- three products of a part, within 32,767, and a coordinate, within 8,191
-abbrev pub tallest : ℕ
-tallest = 805183491
-
 -- v with its height
 abbrev pub spot : List ℤ → Direction → ℕ → Spot
 spot points d v = record { vertex = v; height = height points d v }
 
 -- the higher of two, the lower number among equals
 abbrev pub better : Spot → Spot → Spot
-better best next = cond (ltZ (best .height) (next .height)) next (cond (ltZ (next .height) (best .height)) best (cond (ltb (next .vertex) (best .vertex)) next best))
+better best next =
+    cond (ltZ (best .height) (next .height)) next
+    (cond (ltZ (next .height) (best .height)) best
+    (cond (ltb (next .vertex) (best .vertex)) next best))
 
 -- a vertex with its height
 pub record Placed (points : List ℤ) (d : Direction) (s : Spot) : Type 0 where

@@ -1,44 +1,28 @@
 -- "Answer numbers of the solid judge": the one answer to three tables.
-use mathlib.Core.List.{List}
+use mathlib.Core.List.{List, [], _∷_, _++_}
 use Prim.Native.Nat.{ℕ}
 use lib.IntN.{ℤ}
 use Rattle.points.specs.Points.{vertices}
-use Rattle.tables.specs.Tables.{facets, edges}
-use Rattle.names.specs.Rules.{repeat, unused}
-use Rattle.answers.specs.Answer.{accepted, orElse}
-use Rattle.limits.specs.InOrder.{checked}
+use Rattle.tables.specs.Tables.{facets, sides}
+use Rattle.tables.specs.Facets.{onFacets}
+use Rattle.answers.specs.Answer.{answerOf}
+use Rattle.answers.specs.Order.{Rule, rule, within, firstOf}
 use Rattle.answers.specs.declared.Answer.{Answer}
-use Rattle.pair.specs.Pair.{pair}
-use Rattle.ring.specs.Ring.{ring}
-use Rattle.apart.specs.Apart.{apart}
-use Rattle.flat.specs.Rules.{bent}
-use Rattle.turn.specs.Rules.{turn}
-use Rattle.reflex.specs.Rules.{reflex}
-use Rattle.outside.specs.Rules.{outside}
+use Rattle.stages.specs.Rules.{rulesToTurn}
+use Rattle.reflex.specs.Rules.{isReflex}
+use Rattle.outside.specs.Rules.{isOutside}
+
+abbrev pub rulesFromReflex : List ℤ → List ℕ → List ℕ → List Rule
+rulesFromReflex points corners begins =
+    -- "some corner of the facet across this edge, other than the edge's ends, isn't strictly inside this facet's plane"
+    rule 11 (within (facets begins) (sides begins) (isReflex points corners begins))
+    -- "a vertex that isn't a corner of the facet isn't strictly inside its plane"
+    ∷ rule 12 (within (facets begins) (λ f. vertices points) (onFacets corners begins (isOutside points)))
+    ∷ []
+
+abbrev pub rules : List ℤ → List ℕ → List ℕ → List Rule
+rules points corners begins = rulesToTurn points corners begins ++ rulesFromReflex points corners begins
 
 -- "The lowest number that applies anywhere in the tables wins. Within it, the first place wins"; "accepted: none below applies: V, E, F"
-abbrev pub fromBent : List ℤ → List ℕ → List ℕ → Answer
-fromBent points corners begins =
-    orElse 9 (bent points corners begins)
-    (orElse 10 (turn points corners begins)
-    (orElse 11 (reflex points corners begins)
-    (orElse 12 (outside points corners begins)
-    (accepted (vertices points) (edges corners) (facets begins)))))
-
-abbrev pub fromRing : List ℤ → List ℕ → List ℕ → Answer
-fromRing points corners begins =
-    orElse 7 (ring (vertices points) corners begins)
-    (orElse 8 (apart corners begins)
-    (fromBent points corners begins))
-
-abbrev pub fromPair : List ℤ → List ℕ → List ℕ → Answer
-fromPair points corners begins = orElse 6 (pair corners begins) (fromRing points corners begins)
-
-abbrev pub fromRepeat : List ℤ → List ℕ → List ℕ → Answer
-fromRepeat points corners begins =
-    orElse 4 (repeat corners begins)
-    (orElse 5 (unused (vertices points) corners)
-    (fromPair points corners begins))
-
 unfoldable pub judged : List ℤ → List ℕ → List ℕ → Answer
-judged points corners begins = checked points corners begins (fromRepeat points corners begins)
+judged points corners begins = answerOf points corners begins (firstOf (rules points corners begins))

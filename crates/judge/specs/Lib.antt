@@ -1,4 +1,4 @@
--- The judge's answer, and what it means.
+-- The judge's answer, and the index that it hands out.
 pub mod Judge
 pub mod Stages
 pub mod Indexed

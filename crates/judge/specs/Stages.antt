@@ -1,56 +1,67 @@
--- What is known on the way, after each group of numbers passed. Assumes nothing.
-use mathlib.Core.Path.{_≡_}
-use mathlib.Core.List.{List}
-use Prim.Native.Nat.{ℕ}
+-- What is known of tables that pass all rules, or all but the last. Assumes nothing.
+use mathlib.Core.Path.{_≡_, refl}
+use mathlib.Core.List.{List, [], _∷_}
+use mathlib.Core.Bool.{true}
+use Prim.Native.Nat.{ℕ, _≤_, _<_}
+use native.Mathlib.Omega.{arith}
 use lib.IntN.{ℤ}
 use Rattle.points.specs.Points.{vertices}
-use Rattle.names.specs.Rules.{repeat, unused}
-use Rattle.limits.specs.Rules.{in-limits}
+use Rattle.tables.specs.Size.{isSize}
+use Rattle.answers.specs.Answer.{numberOf}
+use Rattle.answers.specs.Order.{Passes, whole, never, firstOf, numbered, number-0}
+use Rattle.answers.specs.declared.Fault.the-variants.{None}
 use Rattle.limits.specs.InOrder.{InOrder}
-use Rattle.tables.specs.declared.Found.the-variants.{Nothing}
-use Rattle.pair.specs.Pair.{pair, pair-none}
-use Rattle.ring.specs.Ring.{ring}
-use Rattle.apart.specs.Apart.{apart}
-use Rattle.flat.specs.Facet.{Measured}
-use Rattle.flat.specs.Rules.{bent}
-use Rattle.turn.specs.Rules.{turn}
-use Rattle.reflex.specs.Rules.{reflex}
-use Rattle.outside.specs.Meaning.{flat, no-reflex}
-use Rattle.outside.specs.Passed.{Passed}
-use Rattle.solid.specs.Tables.{Closed}
-use Rattle.bridge.specs.Lower.{all-sound}
+use Rattle.pair.specs.Pair.{Paired, pair-none}
 use Rattle.bridge.specs.Surface.{tablesOf}
 use Rattle.bridge.specs.Closed.{is-closed}
+use Rattle.flat.specs.Facet.{Measured}
+use Rattle.shape.specs.Flat.{flat}
+use Rattle.shape.specs.Folds.{no-reflex}
+use Rattle.outside.specs.Passed.{Passed}
+use Rattle.solid.specs.Tables.{Closed}
+use Rattle.stages.specs.Known.{measured}
+use Rattle.judge.specs.Judge.{rules}
 
--- 1 to 5
-pub record UpTo5 (points : List ℤ) (corners begins : List ℕ) : Type 0 where
-  pub measured : Measured points corners begins
-  pub single : repeat corners begins ≡ Nothing
-  pub used : unused (vertices points) corners ≡ Nothing
+-- of tables that pass the first n rules
+module _ (points : List ℤ) (corners begins : List ℕ) {n : ℕ} (P : Passes (rules points corners begins) n) where
+  pub after-3 : 3 ≤ n → InOrder points corners begins
+  after-3 l = record {
+    sizes = never (whole (isSize points corners begins)) (P .none 0 (omega arith));
+    ranges = P .none 1 (omega arith);
+    numbers = P .none 2 (omega arith);
+  }
 
--- 1 to 6
-pub record UpTo6 (points : List ℤ) (corners begins : List ℕ) : Type 0 where
-  pub five : UpTo5 points corners begins
-  pub paired : pair corners begins ≡ Nothing
+  pub measured-after : 3 ≤ n → Measured points corners begins
+  measured-after l = measured (after-3 l)
 
--- 1 to 8
-pub record UpTo8 (points : List ℤ) (corners begins : List ℕ) : Type 0 where
-  pub six : UpTo6 points corners begins
-  pub closed : Closed (tablesOf points corners begins)
+  pub paired-after : 6 ≤ n → Paired corners begins
+  paired-after l = pair-none (measured-after (omega arith) .sound .laid) (P .none 5 (omega arith))
 
--- 1 to 3
-pub measured : {points : List ℤ} {corners begins : List ℕ} → InOrder points corners begins → Measured points corners begins
-measured {points} o = record { ranged = in-limits points (o .ranges); sound = all-sound points (o .sizes) (o .numbers) }
+  pub closed-after : 8 ≤ n → Closed (tablesOf points corners begins)
+  closed-after l = is-closed points (measured-after (omega arith) .sound) (record {
+    no-4 = P .none 3 (omega arith);
+    no-5 = P .none 4 (omega arith);
+    no-6 = P .none 5 (omega arith);
+    no-7 = P .none 6 (omega arith);
+    no-8 = P .none 7 (omega arith);
+  })
 
-pub up-to-8 : {points : List ℤ} {corners begins : List ℕ} → UpTo6 points corners begins → ring (vertices points) corners begins ≡ Nothing → apart corners begins ≡ Nothing
-    → UpTo8 points corners begins
-up-to-8 {points} s r a =
-    let f = s .five in
-    record { six = s; closed = is-closed points (f .measured .sound) (record { no-4 = f .single; no-5 = f .used; no-6 = s .paired; no-7 = r; no-8 = a }) }
+  pub passed-after : 11 ≤ n → Passed points corners begins
+  passed-after l =
+      let m = measured-after (omega arith) in
+      let laid = m .sound .laid in
+      record {
+        measured = m;
+        closed = closed-after (omega arith);
+        flat = flat points laid (P .none 8 (omega arith)) (P .none 9 (omega arith));
+        reflex = no-reflex points laid (paired-after (omega arith)) (P .none 10 (omega arith));
+      }
 
-pub up-to-11 : {points : List ℤ} {corners begins : List ℕ} → UpTo8 points corners begins → bent points corners begins ≡ Nothing → turn points corners begins ≡ Nothing
-    → reflex points corners begins ≡ Nothing → Passed points corners begins
-up-to-11 {points} e b t r =
-    let m = e .six .five .measured in
-    let laid = m .sound .laid in
-    record { measured = m; closed = e .closed; flat = flat points laid b t; reflex = no-reflex points laid (pair-none laid (e .six .paired)) r }
+pub all-numbered : (points : List ℤ) (corners begins : List ℕ) → numbered (rules points corners begins) ≡ true
+unfolding numbered
+all-numbered points corners begins = refl
+
+-- the number 0 says that no rule is broken
+pub none-broken : (points : List ℤ) (corners begins : List ℕ) → numberOf (firstOf (rules points corners begins)) ≡ 0
+    → firstOf (rules points corners begins) ≡ None
+none-broken points corners begins e = number-0 (rules points corners begins) (all-numbered points corners begins) e

@@ -1,147 +1,75 @@
+// The judge of a solid.
 ghost use mathlib.Core.Path.{_≡_};
-ghost use Rattle.edges.specs.Index.{Leaving, Index};
-ghost use Rattle.pair.specs.Across.{Across};
-ghost use Rattle.flat.specs.Facet.{Measured};
-ghost use Rattle.judge.specs.Judge.{fromBent, fromRing, fromPair, fromRepeat, judged};
-ghost use Rattle.judge.specs.Stages.{UpTo5, UpTo6, UpTo8};
-ghost use Rattle.judge.specs.Indexed.{Fresh, Indexed};
+ghost use Rattle.answers.specs.Order.{firstOf, Passes};
+ghost use Rattle.index.specs.Entries.{Fresh};
+ghost use Rattle.edges.specs.Index.{Indexed};
+ghost use Rattle.stages.specs.Known.{HandsOut};
+ghost use Rattle.judge.specs.Judge.{rules, judged};
+ghost use Rattle.judge.specs.Indexed.{IndexedIf};
 
-// Numbers 9 to 12.
-fn from_bent(
+// Numbers 11 and 12, where 1 to 10 passed.
+fn from_reflex(
     points: &[i32],
     corners: &[u16],
     begins: &[u16],
-    home: &[u16; 6144],
-    ends: &[u16; 6144],
-    last: &[u16; 1024],
-    back: &[u16; 6144],
-    across: &[u16; 6144],
-) -> answers::Answer
-    requires { ⌜ UpTo8 (now points) (now corners) (now begins) ⌝ }
-    requires { ⌜ Index (now corners) (now begins) (now home) (now ends) (now last) (now back) × Across (now corners) (now begins) (now across) ⌝ }
-    ensures { λ r. ⌜ r ≡ fromBent (now (points .entry)) (now (corners .entry)) (now (begins .entry)) ⌝ }
+    edges: &index::Edges,
+    heads: &index::Heads,
+) -> answers::Fault
+    requires { ⌜ Passes (rules (now points) (now corners) (now begins)) 10 ⌝ }
+    requires { ⌜ Indexed (now corners) (now begins) (now edges) (now heads) ⌝ }
+    ensures { λ r. ⌜ r ≡ firstOf (rules (now (points .entry)) (now (corners .entry)) (now (begins .entry))) ⌝ }
 {
-    let bent = flat::bent(points, corners, begins);
-    if let tables::Found::At(f, p) = bent {
-        return answers::Answer::refused(9, f, p);
-    }
-    let turn = turn::turn(points, corners, begins);
-    if let tables::Found::At(f, p) = turn {
-        return answers::Answer::refused(10, f, p);
-    }
-    let reflex = reflex::reflex(points, corners, begins, home, across);
+    let reflex = reflex::reflex(points, corners, begins, edges, heads);
     if let tables::Found::At(f, p) = reflex {
-        return answers::Answer::refused(11, f, p);
+        return answers::Fault::Breaks(11, f, p);
     }
-    let outside = outside::outside(points, corners, begins, ends, last, back);
+    let outside = outside::outside(points, corners, begins, edges, heads);
     if let tables::Found::At(f, v) = outside {
-        return answers::Answer::refused(12, f, v);
+        return answers::Fault::Breaks(12, f, v);
     }
-    answers::Answer::accepted(points.len() / 3, corners.len() / 2, begins.len() - 1)
+    answers::Fault::None
 }
 
-// Numbers 7 to 12.
-fn from_ring(
+// The first fault of all.
+fn first_fault(
     points: &[i32],
     corners: &[u16],
     begins: &[u16],
-    home: &[u16; 6144],
-    ends: &[u16; 6144],
-    last: &[u16; 1024],
-    back: &[u16; 6144],
-    across: &[u16; 6144],
-) -> answers::Answer
-    requires { ⌜ UpTo6 (now points) (now corners) (now begins) ⌝ }
-    requires { ⌜ Index (now corners) (now begins) (now home) (now ends) (now last) (now back) × Across (now corners) (now begins) (now across) ⌝ }
-    ensures { λ r. ⌜ r ≡ fromRing (now (points .entry)) (now (corners .entry)) (now (begins .entry)) ⌝ }
+    edges: &mut index::Edges,
+    heads: &mut index::Heads,
+) -> answers::Fault
+    requires { ⌜ Fresh (now edges) (now heads) ⌝ }
+    ensures first { λ r. ⌜ r ≡ firstOf (rules (now (points .entry)) (now (corners .entry)) (now (begins .entry))) ⌝ }
+    ensures index { λ r. ⌜ HandsOut r (now (corners .entry)) (now (begins .entry)) (now (edges .exit)) (now (heads .exit)) ⌝ }
 {
-    let ring = ring::ring(corners, begins, home, last, back, across, points.len() / 3);
-    if let tables::Found::At(v, z) = ring {
-        return answers::Answer::refused(7, v, z);
+    let early = stages::up_to_turn(points, corners, begins, edges, heads);
+    if let answers::Fault::Breaks(number, first, second) = early {
+        return answers::Fault::Breaks(number, first, second);
     }
-    let apart = apart::apart(corners, begins, home, across);
-    if let tables::Found::At(f, z) = apart {
-        return answers::Answer::refused(8, f, z);
-    }
-    from_bent(points, corners, begins, home, ends, last, back, across)
+    from_reflex(points, corners, begins, edges, heads)
 }
 
-// Numbers 6 to 12: the index of the edges is built once and serves them all.
-fn from_pair(
-    points: &[i32],
-    corners: &[u16],
-    begins: &[u16],
-    ends: &mut [u16; 6144],
-    last: &mut [u16; 1024],
-    back: &mut [u16; 6144],
-) -> answers::Answer
-    requires { ⌜ UpTo5 (now points) (now corners) (now begins) ⌝ }
-    requires { ⌜ Fresh (now ends) (now last) (now back) ⌝ }
-    ensures { λ r. ⌜ r ≡ fromPair (now (points .entry)) (now (corners .entry)) (now (begins .entry)) ⌝ }
-    ensures { λ _. ⌜ Leaving (now (corners .entry)) (now (begins .entry)) (now (ends .exit)) (now (last .exit)) (now (back .exit)) ⌝ }
-{
-    let mut home = [0u16; 6144];
-    edges::build(corners, begins, &mut home, ends, last, back);
-    let mut across = [0u16; 6144];
-    edges::across(corners, begins, ends, last, back, &mut across);
-    let pair = pair::pair(corners, begins, &home, ends, last, back, &across);
-    if let tables::Found::At(f, p) = pair {
-        return answers::Answer::refused(6, f, p);
-    }
-    from_ring(points, corners, begins, &home, ends, last, back, &across)
-}
-
-// Numbers 4 to 12.
-fn from_repeat(
-    points: &[i32],
-    corners: &[u16],
-    begins: &[u16],
-    ends: &mut [u16; 6144],
-    last: &mut [u16; 1024],
-    back: &mut [u16; 6144],
-) -> answers::Answer
-    requires { ⌜ Measured (now points) (now corners) (now begins) ⌝ }
-    requires { ⌜ Fresh (now ends) (now last) (now back) ⌝ }
-    ensures { λ r. ⌜ r ≡ fromRepeat (now (points .entry)) (now (corners .entry)) (now (begins .entry)) ⌝ }
-    ensures { λ r. ⌜ Indexed r (now (corners .entry)) (now (begins .entry)) (now (ends .exit)) (now (last .exit)) (now (back .exit)) ⌝ }
-{
-    let repeat = names::repeat(corners, begins);
-    if let tables::Found::At(f, p) = repeat {
-        return answers::Answer::refused(4, f, p);
-    }
-    let unused = names::unused(corners, points.len() / 3);
-    if let tables::Found::At(v, z) = unused {
-        return answers::Answer::refused(5, v, z);
-    }
-    from_pair(points, corners, begins, ends, last, back)
-}
-
-// The judge of a solid, which leaves the edges that leave each vertex of an accepted one in three tables that are lent blank.
+// The judge of a solid, which hands out the index of an accepted one in two tables that are lent blank.
 pub fn judge_with_index(
     points: &[i32],
     corners: &[u16],
     begins: &[u16],
-    ends: &mut [u16; 6144],
-    last: &mut [u16; 1024],
-    back: &mut [u16; 6144],
+    edges: &mut index::Edges,
+    heads: &mut index::Heads,
 ) -> answers::Answer
-    requires { ⌜ Fresh (now ends) (now last) (now back) ⌝ }
-    ensures { λ r. ⌜ r ≡ judged (now (points .entry)) (now (corners .entry)) (now (begins .entry)) ⌝ }
-    ensures { λ r. ⌜ Indexed r (now (corners .entry)) (now (begins .entry)) (now (ends .exit)) (now (last .exit)) (now (back .exit)) ⌝ }
+    requires { ⌜ Fresh (now edges) (now heads) ⌝ }
+    ensures answer { λ r. ⌜ r ≡ judged (now (points .entry)) (now (corners .entry)) (now (begins .entry)) ⌝ }
+    ensures index { λ r. ⌜ IndexedIf r (now (corners .entry)) (now (begins .entry)) (now (edges .exit)) (now (heads .exit)) ⌝ }
 {
-    let early = limits::check(points, corners, begins);
-    if early.number != 0 {
-        return early;
-    }
-    from_repeat(points, corners, begins, ends, last, back)
+    let first = first_fault(points, corners, begins, edges, heads);
+    answers::Answer::of(points, corners, begins, first)
 }
 
 // The judge of a solid: its one answer to the three lent tables, which are only read.
 pub fn judge(points: &[i32], corners: &[u16], begins: &[u16]) -> answers::Answer
     ensures { λ r. ⌜ r ≡ judged (now (points .entry)) (now (corners .entry)) (now (begins .entry)) ⌝ }
 {
-    let mut ends = [0u16; 6144];
-    let mut last = [0u16; 1024];
-    let mut back = [0u16; 6144];
-    judge_with_index(points, corners, begins, &mut ends, &mut last, &mut back)
+    let mut edges = [[0u16; 4]; tables::MOST_CORNERS];
+    let mut heads = [0u16; tables::MOST_VERTICES];
+    judge_with_index(points, corners, begins, &mut edges, &mut heads)
 }

@@ -1,25 +1,27 @@
--- Numbers 1 to 3, and "tables whose sizes, ranges and corner numbers are in order": those that pass them. Assumes nothing.
-use mathlib.Core.Path.{_≡_, refl, sym, ap, _∙_}
-use mathlib.Core.Bool.{Bool, true, false, cond}
-use mathlib.Core.List.{List}
-use Prim.Native.Nat.{ℕ}
+-- Numbers 1 to 3 in their order, and "tables whose sizes, ranges and corner numbers are in order": those that pass them. Assumes nothing.
+use mathlib.Core.Path.{_≡_}
+use mathlib.Core.Bool.{false}
+use mathlib.Core.List.{List, [], _∷_}
+use Prim.Native.Nat.{ℕ, zero, suc, _<_}
 use native.Mathlib.Omega.{arith}
 use lib.IntN.{ℤ}
 use Rattle.points.specs.Points.{vertices}
+use Rattle.tables.specs.Tables.{facets, sides}
 use Rattle.tables.specs.Size.{isSize, Laid, sized}
-use Rattle.limits.specs.Rules.{range, index}
-use Rattle.answers.specs.Answer.{accepted, refused, orElse}
-use Rattle.answers.specs.declared.Answer.{Answer}
-use Rattle.tables.specs.declared.Found.{Found}
-use Rattle.tables.specs.declared.Found.the-variants.{At, Nothing}
+use Rattle.tables.specs.Facets.{onFacets}
+use Rattle.tables.specs.declared.Found.the-variants.{Nothing}
+use Rattle.answers.specs.Order.{Rule, rule, whole, each, within, firstOf, Passes, placeAt, never, nothing, all-pass, none-later}
+use Rattle.answers.specs.declared.Fault.the-variants.{None}
+use Rattle.limits.specs.Rules.{outOfRange, wild, range, index}
 
--- 2 or 3, or what comes after them
-abbrev pub fromRange : List ℤ → List ℕ → List ℕ → Answer → Answer
-fromRange points corners begins later = orElse 2 (range points) (orElse 3 (index (vertices points) corners begins) later)
-
--- 1, 2 or 3, or what comes after them
-abbrev pub checked : List ℤ → List ℕ → List ℕ → Answer → Answer
-checked points corners begins later = cond (isSize points corners begins) (refused 1 0 0) (fromRange points corners begins later)
+-- "points not in threes; V, F or corners outside limits; begins don't start at 0, end at the run's length, or give a facet fewer than 3 or more
+-- than 12 corners"; "a coordinate is outside its limits"; "a corner number is V or more"
+abbrev pub limitRules : List ℤ → List ℕ → List ℕ → List Rule
+limitRules points corners begins =
+    rule 1 (whole (isSize points corners begins))
+    ∷ rule 2 (each (vertices points) (outOfRange points))
+    ∷ rule 3 (within (facets begins) (sides begins) (onFacets corners begins (wild (vertices points))))
+    ∷ []
 
 pub record InOrder (points : List ℤ) (corners begins : List ℕ) : Type 0 where
   pub sizes : isSize points corners begins ≡ false
@@ -27,43 +29,28 @@ pub record InOrder (points : List ℤ) (corners begins : List ℕ) : Type 0 wher
   pub numbers : index (vertices points) corners begins ≡ Nothing
 
 -- exactly such tables pass
-data Verdict (points : List ℤ) (corners begins : List ℕ) : Type 0 where
-  in-order : InOrder points corners begins → Verdict points corners begins
-  faulty : (answer : Answer) → (answer .number ≡ 0 → ⊥) → ((later : Answer) → checked points corners begins later ≡ answer) → Verdict points corners begins
-
-verdict : (points : List ℤ) (corners begins : List ℕ) → Verdict points corners begins
-verdict points corners begins = go (isSize points corners begins) refl (range points) refl (index (vertices points) corners begins) refl
-  where
-    go : (t : Bool) → isSize points corners begins ≡ t → (r : Found) → range points ≡ r → (q : Found) → index (vertices points) corners begins ≡ q
-        → Verdict points corners begins
-    go true e r f q g = faulty (refused 1 0 0) (λ z. omega arith) (λ later. rw e)
-    go false e (At a b) f q g = faulty (refused 2 a b) (λ z. omega arith) (λ later. rw (e, f))
-    go false e Nothing f (At a b) g = faulty (refused 3 a b) (λ z. omega arith) (λ later. rw (e, f, g))
-    go false e Nothing f Nothing g = in-order (record { sizes = e; ranges = f; numbers = g })
+pub in-order : {points : List ℤ} {corners begins : List ℕ} → Passes (limitRules points corners begins) 3 → InOrder points corners begins
+in-order {points} {corners} {begins} P = record {
+  sizes = never (whole (isSize points corners begins)) (P .none 0 (omega arith));
+  ranges = P .none 1 (omega arith);
+  numbers = P .none 2 (omega arith);
+}
 
 module _ {points : List ℤ} {corners begins : List ℕ} (o : InOrder points corners begins) where
-  pub passes : (later : Answer) → checked points corners begins later ≡ later
-  passes later = rw (o .sizes, o .ranges, o .numbers)
+  pub limits-pass : Passes (limitRules points corners begins) 3
+  limits-pass = record { none = go }
+    where
+      go : (i : ℕ) → i < 3 → placeAt (limitRules points corners begins) i ≡ Nothing
+      go zero l = nothing (whole (isSize points corners begins)) (o .sizes)
+      go (suc zero) l = o .ranges
+      go (suc (suc zero)) l = o .numbers
+      go (suc (suc (suc i))) l = absurd (omega arith)
 
   pub laid : Laid corners begins
   laid = sized points corners begins (o .sizes) .laid
 
-pub number-0 : (points : List ℤ) (corners begins : List ℕ) (later : Answer) → checked points corners begins later .number ≡ 0
-    → InOrder points corners begins × (later .number ≡ 0)
-number-0 points corners begins later h = by (verdict points corners begins)
-  where
-    by : Verdict points corners begins → InOrder points corners begins × (later .number ≡ 0)
-    by (in-order o) = (o, ap (λ (a : Answer). a .number) (sym (passes o later)) ∙ h)
-    by (faulty a n q) = absurd (n (ap (λ (a : Answer). a .number) (sym (q later)) ∙ h))
+pub limits-none : (points : List ℤ) (corners begins : List ℕ) → firstOf (limitRules points corners begins) ≡ None → InOrder points corners begins
+limits-none points corners begins e = in-order (all-pass (limitRules points corners begins) e)
 
--- what the code's answer says
-module _ (points : List ℤ) (corners begins : List ℕ) {answer : Answer} (e : answer ≡ checked points corners begins (accepted 0 0 0)) where
-  pub stopped : (answer .number ≡ 0 → ⊥) → (later : Answer) → answer ≡ checked points corners begins later
-  stopped h later = by (verdict points corners begins)
-    where
-      by : Verdict points corners begins → answer ≡ checked points corners begins later
-      by (in-order o) = absurd (h (ap (λ (a : Answer). a .number) (e ∙ passes o (accepted 0 0 0))))
-      by (faulty a n q) = e ∙ q (accepted 0 0 0) ∙ sym (q later)
-
-  pub passed : answer .number ≡ 0 → InOrder points corners begins
-  passed h = number-0 points corners begins (accepted 0 0 0) (ap (λ (a : Answer). a .number) (sym e) ∙ h) .0
+pub none-limits : {points : List ℤ} {corners begins : List ℕ} → InOrder points corners begins → firstOf (limitRules points corners begins) ≡ None
+none-limits {points} {corners} {begins} o = none-later (limitRules points corners begins) (limits-pass o)

@@ -4,10 +4,10 @@ ghost use Prim.Native.Nat.{_<_};
 ghost use lib.ListN.{length};
 ghost use Rattle.whole.specs.First.{firstBelow};
 ghost use Rattle.points.specs.Points.{Vertex};
-ghost use Rattle.answers.specs.Answer.{accepted};
+ghost use Rattle.answers.specs.Order.{firstOf};
 ghost use Rattle.tables.specs.Size.{Laid};
 ghost use Rattle.limits.specs.Rules.{outOfRange, range, wild, index};
-ghost use Rattle.limits.specs.InOrder.{checked};
+ghost use Rattle.limits.specs.InOrder.{limitRules};
 
 // RANGE at vertex v.
 fn out_of_range(points: &[i32], v: usize) -> bool
@@ -70,20 +70,20 @@ fn index(corners: &[u16], begins: &[u16], n: usize) -> tables::Found
     tables::Found::Nothing
 }
 
-// Numbers 1 to 3, or 0 where the tables' sizes, ranges and corner numbers are in order.
-pub fn check(points: &[i32], corners: &[u16], begins: &[u16]) -> answers::Answer
-    ensures { λ r. ⌜ r ≡ checked (now (points .entry)) (now (corners .entry)) (now (begins .entry)) (accepted 0 0 0) ⌝ }
+// Numbers 1 to 3 in their order: the first fault, or none where the tables' sizes, ranges and corner numbers are in order.
+pub fn check(points: &[i32], corners: &[u16], begins: &[u16]) -> answers::Fault
+    ensures { λ r. ⌜ r ≡ firstOf (limitRules (now (points .entry)) (now (corners .entry)) (now (begins .entry))) ⌝ }
 {
     if tables::size(points, corners, begins) {
-        return answers::Answer::refused(1, 0, 0);
+        return answers::Fault::Breaks(1, 0, 0);
     }
     match range(points) {
-        tables::Found::At(first, second) => return answers::Answer::refused(2, first, second),
+        tables::Found::At(first, second) => return answers::Fault::Breaks(2, first, second),
         tables::Found::Nothing => {}
     }
     match index(corners, begins, points.len() / 3) {
-        tables::Found::At(first, second) => return answers::Answer::refused(3, first, second),
+        tables::Found::At(first, second) => return answers::Fault::Breaks(3, first, second),
         tables::Found::Nothing => {}
     }
-    answers::Answer::accepted(0, 0, 0)
+    answers::Fault::None
 }

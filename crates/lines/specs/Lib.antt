@@ -2,3 +2,4 @@
 pub mod Cases
 pub mod Line
 pub mod Shown
+pub mod Stored

@@ -4,8 +4,8 @@ ghost use mathlib.Core.List.{[], _∷_};
 ghost use Prim.Native.Nat.{_+_, _≤_, _<_};
 ghost use lib.IntN.{natAbs};
 ghost use lib.ListN.{length};
-ghost use lib.Seq.{sets};
 ghost use Rattle.lines.specs.Shown.{digit, digits, shown};
+ghost use Rattle.lines.specs.Stored.{Stored};
 ghost use Rattle.lines.specs.Line.{after, lineOf, room, lineIn, numberOf};
 
 // A number without its sign: that of the least number fits too.
@@ -29,7 +29,7 @@ fn digit(n: u64) -> u8
 // The digits of n, stored from `at` on; the place after them.
 fn put_digits(buf: &mut [u8], at: usize, n: u64) -> usize
     requires { ⌜ at + length (digits n) ≤ length (now buf) ⌝ }
-    ensures { λ r. ⌜ (r ≡ at + length (digits n)) × (now (buf .exit) ≡ sets (now (buf .entry)) at (digits n)) ⌝ }
+    ensures { λ r. ⌜ Stored (digits n) (now (buf .entry)) (now (buf .exit)) at r ⌝ }
 {
     if n < 10 {
         buf[at] = digit(n);
@@ -43,7 +43,7 @@ fn put_digits(buf: &mut [u8], at: usize, n: u64) -> usize
 // A number in decimal, stored from `at` on; the place after it.
 pub fn put_number(buf: &mut [u8], at: usize, z: i64) -> usize
     requires { ⌜ at + length (shown z) ≤ length (now buf) ⌝ }
-    ensures { λ r. ⌜ (r ≡ at + length (shown z)) × (now (buf .exit) ≡ sets (now (buf .entry)) at (shown z)) ⌝ }
+    ensures { λ r. ⌜ Stored (shown z) (now (buf .entry)) (now (buf .exit)) at r ⌝ }
 {
     if z < 0 {
         buf[at] = b'-';
@@ -65,7 +65,7 @@ fn after(others: usize) -> u8
 // A line of numbers, stored from `at` on; the place after it.
 pub fn put_line(buf: &mut [u8], at: usize, numbers: &[i64]) -> usize
     requires { ⌜ at + length (lineOf (now numbers)) ≤ length (now buf) ⌝ }
-    ensures { λ r. ⌜ (r ≡ at + length (lineOf (now (numbers .entry)))) × (now (buf .exit) ≡ sets (now (buf .entry)) at (lineOf (now (numbers .entry)))) ⌝ }
+    ensures { λ r. ⌜ Stored (lineOf (now (numbers .entry))) (now (buf .entry)) (now (buf .exit)) at r ⌝ }
 {
     let n = numbers.len();
     let mut end = at;

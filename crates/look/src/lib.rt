@@ -1,9 +1,9 @@
-// The tape reader's deciding pass: what the records add up to, or the first bad one.
+// What stands at an offset of a tape: a sound record, or the first rule that it breaks.
 ghost use mathlib.Core.Path.{_≡_};
 ghost use Prim.Native.Nat.{_+_, _*_, _≤_, _<_};
 ghost use lib.ListN.{length};
 ghost use Rattle.tables.specs.Tables.{mostCorners, mostSides};
-ghost use Rattle.tape.specs.Reading.{pointAt, facetAt, endAt, lookAt, readTape};
+ghost use Rattle.tape.specs.Reading.{pointAt, facetAt, endAt, lookAt};
 
 // ORDER, LIMIT and CUT at a point's record.
 fn look_point(tape: &[u8], at: usize, v: usize, f: usize) -> tape::Next
@@ -61,7 +61,7 @@ fn look_end(tape: &[u8], at: usize, v: usize, f: usize) -> tape::Next
 }
 
 // What stands at an offset, where v points and f facets with c corners came before.
-fn look(tape: &[u8], at: usize, v: usize, f: usize, c: usize) -> tape::Next
+pub fn look(tape: &[u8], at: usize, v: usize, f: usize, c: usize) -> tape::Next
     requires { ⌜ c ≤ mostCorners ⌝ }
     ensures { λ r. ⌜ r ≡ lookAt (now (tape .entry)) at v f c ⌝ }
 {
@@ -82,29 +82,4 @@ fn look(tape: &[u8], at: usize, v: usize, f: usize, c: usize) -> tape::Next
         return tape::Next::Bad(17, at);
     }
     look_facet(tape, at, f, c, kind)
-}
-
-// The deciding pass: what the records add up to, or the first bad one.
-pub fn decide(tape: &[u8]) -> tape::Outcome
-    ensures { λ r. ⌜ r ≡ readTape (now (tape .entry)) ⌝ }
-{
-    let mut at = 0;
-    let mut v = 0;
-    let mut f = 0;
-    let mut c = 0;
-    loop {
-        match look(tape, at, v, f, c) {
-            tape::Next::Point => {
-                at += 7;
-                v += 1;
-            }
-            tape::Next::Facet(n) => {
-                at += 1 + 2 * n;
-                f += 1;
-                c += n;
-            }
-            tape::Next::End => return tape::Outcome::Read(v, f, c),
-            tape::Next::Bad(number, offset) => return tape::Outcome::Refused(number, offset),
-        }
-    }
 }

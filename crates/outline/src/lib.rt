@@ -1,14 +1,8 @@
-mod left;
-mod pairs;
-mod range;
-mod wound;
-
-use left::first_not_left;
-use range::first_out;
-use wound::second_far;
+// The outline judge: the order of the refusals.
 ghost use mathlib.Core.Path.{_≡_};
 ghost use Rattle.points.specs.Range.{InRange};
-ghost use Rattle.outline.specs.Outline.{few, judgedTurns, judgedOutline};
+ghost use Rattle.once_round.specs.Words.{few};
+ghost use Rattle.outline.specs.Outline.{judgedTurns, judgedOutline};
 
 // The answer to an outline: the sheet's number, and the count or a point's number.
 pub struct Verdict {
@@ -35,14 +29,14 @@ fn judge_turns(points: &[i32]) -> Verdict
     ensures { λ r. ⌜ r ≡ judgedTurns (now (points .entry)) ⌝ }
 {
     let n = points.len() / 2;
-    let straight = first_not_left(points);
+    let straight = left::first_not_left(points);
     if straight < n {
         return Verdict {
             number: 25,
             place: straight,
         };
     }
-    let again = second_far(points);
+    let again = wound::second_far(points);
     if again < n {
         return Verdict {
             number: 26,
@@ -66,7 +60,7 @@ pub fn judge_outline(points: &[i32]) -> Verdict
             place: 0,
         };
     }
-    let out = first_out(points);
+    let out = pairs::first_out(points);
     if out < points.len() / 2 {
         return Verdict {
             number: 2,

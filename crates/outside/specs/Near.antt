@@ -1,16 +1,23 @@
--- The local test that spares OUTSIDE its scan: the neighbours of a facet's corners. Assumes nothing.
-use mathlib.Core.Path.{_≡_, sym}
+-- The local test that spares OUTSIDE its scan: the neighbours of a facet's corners, along their chains. Assumes nothing.
+use mathlib.Core.Path.{_≡_, refl, sym, _∙_}
 use mathlib.Core.Bool.{Bool, true, false, _&&_}
 use mathlib.Core.List.{List}
-use Prim.Native.Nat.{ℕ, _<_}
+use Prim.Native.Nat.{ℕ, _+_, _-_, _≤_, _<_}
+use native.Mathlib.Omega.{arith}
 use lib.Dec.{ltb}
 use borrow.Author.Tests.{eq-eqb, lt-ltb}
 use lib.IntN.{ℤ}
 use lib.ListN.{length, getD}
-use Rattle.whole.specs.First.{anyBelow}
+use Rattle.whole.specs.First.{anyBelow, None, none-0, none-more, any-hit, any-miss}
 use Rattle.whole.specs.Count.{lastBelow}
-use Rattle.tables.specs.Tables.{facets, facetOf, from, to}
+use Rattle.points.specs.Points.{Vertex}
+use Rattle.tables.specs.Tables.{mostVertices, facets, facetOf, from, to}
+use Rattle.tables.specs.Places.{next-below}
+use Rattle.index.specs.Entries.{endAt, backAt, headAt}
 use Rattle.edges.specs.Chains.{leaves, Within}
+use Rattle.edges.specs.Index.{Indexed, leaves-each, end-is}
+use Rattle.edges.specs.Along.{Seeking, seeking-0, seeking-more, seeking-here, seeking-none, place-below, place-leaves}
+use Rattle.flat.specs.Facet.{Facet, Measured, facet}
 use Rattle.outside.specs.Rules.{isOutside}
 
 -- the edge at place q leaves v, and OUTSIDE applies to its end
@@ -25,24 +32,93 @@ isNear points corners begins part v = ltb 0 (lastBelow (leadsOut points corners 
 abbrev pub nearPart : List ℤ → List ℕ → List ℕ → List ℕ → Bool
 nearPart points corners begins part = anyBelow (λ p. isNear points corners begins part (getD part p 0)) (length part)
 
+abbrev pub nearFacet : List ℤ → List ℕ → List ℕ → ℕ → Bool
+nearFacet points corners begins f = nearPart points corners begins (facetOf corners begins f)
+
 -- .. of some facet
 unfoldable pub near : List ℤ → List ℕ → List ℕ → Bool
-near points corners begins = anyBelow (λ f. nearPart points corners begins (facetOf corners begins f)) (facets begins)
+near points corners begins = anyBelow (nearFacet points corners begins) (facets begins)
 
--- ---- along the chain of v
+-- at a place of the chain of v only the end is tested
+pub out-entry : (points : List ℤ) (corners begins part : List ℕ) (v p u : ℕ) → from corners p ≡ v → u ≡ to corners begins p
+    → leadsOut points corners begins part v p ≡ isOutside points part u
+out-entry points corners begins part v p u s e = rw (eq-eqb _ _ s, e)
 
-module _ (points : List ℤ) (corners begins part : List ℕ) (v : ℕ) where
-  pub out-within : Within corners v (leadsOut points corners begins part v)
-  out-within p e = rw e
+-- tables that pass 1 to 3, and their index
+pub record Neighboured (points : List ℤ) (corners begins : List ℕ) (edges : List (List ℕ)) (heads : List ℕ) : Type 0 where
+  pub measured : Measured points corners begins
+  pub indexed : Indexed corners begins edges heads
 
-  -- at a place of the chain only the end is tested
-  pub out-entry : (p u : ℕ) → from corners p ≡ v → u ≡ to corners begins p → leadsOut points corners begins part v p ≡ isOutside points part u
-  out-entry p u s e = rw (eq-eqb _ _ s, e)
+-- ---- the loop over the corners of facet f: no neighbour of those before position p is outside
 
-  pub near-hit : {q : ℕ} → 0 < q → q ≡ lastBelow (leadsOut points corners begins part v) (length corners) → true ≡ isNear points corners begins part v
-  unfolding isNear
-  near-hit h e = sym (lt-ltb 0 _ (rw e at h))
+pub record Nearing (points : List ℤ) (corners begins : List ℕ) (edges : List (List ℕ)) (heads : List ℕ) (f : ℕ) (part : List ℕ) (p : ℕ) : Type 0 where
+  pub tables : Neighboured points corners begins edges heads
+  pub facet-in : f < facets begins
+  pub part-is : part ≡ facetOf corners begins f
+  pub upto : p ≤ length part
+  pub none-yet : None (λ p. isNear points corners begins part (getD part p 0)) p
 
-  pub near-none : 0 ≡ lastBelow (leadsOut points corners begins part v) (length corners) → false ≡ isNear points corners begins part v
-  unfolding isNear
-  near-none e = rw (← e)
+-- .. and the loop along the chain of the corner at p: none of those before link q is
+pub record Chaining (points : List ℤ) (corners begins : List ℕ) (edges : List (List ℕ)) (heads : List ℕ) (f : ℕ) (part : List ℕ) (p q : ℕ) : Type 0 where
+  pub nearing : Nearing points corners begins edges heads f part p
+  pub here : p < length part
+  pub seeking : Seeking corners begins edges heads (getD part p 0) (leadsOut points corners begins part (getD part p 0)) q
+
+module _ {points : List ℤ} {corners begins : List ℕ} {edges : List (List ℕ)} {heads : List ℕ} {f : ℕ} {part : List ℕ} where
+  pub nearing-0 : Neighboured points corners begins edges heads → f < facets begins → part ≡ facetOf corners begins f
+      → Nearing points corners begins edges heads f part 0
+  nearing-0 T l e = record {
+    tables = T;
+    facet-in = l;
+    part-is = e;
+    upto = omega arith;
+    none-yet = none-0 (λ p. isNear points corners begins part (getD part p 0));
+  }
+
+  module _ {p : ℕ} (N : Nearing points corners begins edges heads f part p) where
+    pub own-facet : Facet points part
+    own-facet = rw (N .part-is) (facet (N .tables .measured) (N .facet-in))
+
+    module _ (l : p < length part) where
+      pub corner-small : getD part p 0 < mostVertices
+      corner-small = omega (arith, own-facet .named p l, N .tables .measured .sound .named .few)
+
+      pub chaining-0 : Chaining points corners begins edges heads f part p (headAt heads (getD part p 0))
+      chaining-0 = record { nearing = N; here = l; seeking = seeking-0 (leaves-each (N .tables .indexed)) (λ q e. rw e) corner-small }
+
+    pub nearing-none : length part ≤ p → false ≡ nearFacet points corners begins f
+    nearing-none h = rw (← N .part-is) (any-miss (N .none-yet) (N .upto) h)
+
+  module _ {p q : ℕ} (C : Chaining points corners begins edges heads f part p q) where
+    module _ (h : 0 < q) where
+      end-at-is : endAt edges (q - 1) ≡ to corners begins (q - 1)
+      end-at-is = end-is (C .nearing .tables .indexed) (place-below (C .seeking) h)
+
+      pub end-named : Vertex points (endAt edges (q - 1))
+      end-named =
+          let m = C .nearing .tables .measured .sound in
+          rw end-at-is (m .named .index _ (next-below (m .laid) (place-below (C .seeking) h)))
+
+      module _ {t : Bool} (is : t ≡ isOutside points part (endAt edges (q - 1))) where
+        test-is : leadsOut points corners begins part (getD part p 0) (q - 1) ≡ t
+        test-is = out-entry points corners begins part (getD part p 0) (q - 1) _ (place-leaves (C .seeking) h) end-at-is ∙ sym is
+
+        pub chaining-hit : t ≡ true → true ≡ nearFacet points corners begins f
+        unfolding isNear
+        chaining-hit e =
+            rw (← C .nearing .part-is)
+            (any-hit (C .nearing .none-yet) (lt-ltb 0 _ (rw (seeking-here (C .seeking) h (test-is ∙ e)) at h)) (C .here))
+
+        pub chaining-more : t ≡ false → Chaining points corners begins edges heads f part p (backAt edges (q - 1))
+        chaining-more e = record { nearing = C .nearing; here = C .here; seeking = seeking-more (C .seeking) h (test-is ∙ e) }
+
+    -- the chain's end
+    pub nearing-more : q ≤ 0 → Nearing points corners begins edges heads f part (p + 1)
+    unfolding isNear
+    nearing-more h = record {
+      tables = C .nearing .tables;
+      facet-in = C .nearing .facet-in;
+      part-is = C .nearing .part-is;
+      upto = omega (arith, C .here);
+      none-yet = none-more (C .nearing .none-yet) (rw (← seeking-none (C .seeking) h) refl);
+    }

@@ -3,11 +3,11 @@ ghost use mathlib.Core.Path.{_≡_};
 ghost use Prim.Native.Nat.{_≤_, _<_};
 ghost use Rattle.whole.specs.First.{firstBelow};
 ghost use Rattle.points.specs.Points.{vertices, Vertex};
-ghost use Rattle.edges.specs.Index.{Leaving};
+ghost use Rattle.tables.specs.Tables.{mostVertices, facets};
 ghost use Rattle.flat.specs.Facet.{Facet, Measured};
 ghost use Rattle.outside.specs.Rules.{isOutside, outside};
-ghost use Rattle.outside.specs.Near.{isNear, nearPart, near};
-ghost use Rattle.outside.specs.Passed.{Passed};
+ghost use Rattle.outside.specs.Near.{Neighboured, nearFacet, near};
+ghost use Rattle.outside.specs.Passed.{Ready};
 
 // OUTSIDE at vertex v of a facet.
 fn is_outside(points: &[i32], part: &[u16], v: u16) -> bool
@@ -22,7 +22,7 @@ fn is_outside(points: &[i32], part: &[u16], v: u16) -> bool
 
 // The first vertex to which OUTSIDE applies in a facet, or their number.
 fn first_outside(points: &[i32], part: &[u16]) -> usize
-    requires { ⌜ Facet (now points) (now part) × (vertices (now points) ≤ 1024) ⌝ }
+    requires { ⌜ Facet (now points) (now part) × (vertices (now points) ≤ mostVertices) ⌝ }
     ensures { λ r. ⌜ r ≡ firstBelow (isOutside (now (points .entry)) (now (part .entry))) (vertices (now (points .entry))) ⌝ }
 {
     let n = points.len() / 3;
@@ -54,50 +54,29 @@ fn scan(points: &[i32], corners: &[u16], begins: &[u16]) -> tables::Found
     tables::Found::Nothing
 }
 
-// Whether OUTSIDE applies to a neighbour of v: along the chain of v.
-fn is_near(
-    points: &[i32],
-    corners: &[u16],
-    begins: &[u16],
-    ends: &[u16; 6144],
-    last: &[u16; 1024],
-    back: &[u16; 6144],
-    part: &[u16],
-    v: u16,
-) -> bool
-    requires { ⌜ Measured (now points) (now corners) (now begins) × Leaving (now corners) (now begins) (now ends) (now last) (now back) ⌝ }
-    requires { ⌜ Facet (now points) (now part) × Vertex (now points) v ⌝ }
-    ensures { λ r. ⌜ r ≡ isNear (now (points .entry)) (now (corners .entry)) (now (begins .entry)) (now (part .entry)) v ⌝ }
-{
-    let mut q = tables::wide(last[tables::wide(v)]);
-    while 0 < q {
-        let p = q - 1;
-        if is_outside(points, part, ends[p]) {
-            return true;
-        }
-        q = tables::wide(back[p]);
-    }
-    false
-}
-
-// Whether OUTSIDE applies to a neighbour of some corner of a facet.
+// Whether OUTSIDE applies to a neighbour of some corner of facet f: along the chain of each.
 fn near_part(
     points: &[i32],
     corners: &[u16],
     begins: &[u16],
-    ends: &[u16; 6144],
-    last: &[u16; 1024],
-    back: &[u16; 6144],
-    part: &[u16],
+    edges: &index::Edges,
+    heads: &index::Heads,
+    f: usize,
 ) -> bool
-    requires { ⌜ Measured (now points) (now corners) (now begins) × Leaving (now corners) (now begins) (now ends) (now last) (now back) ⌝ }
-    requires { ⌜ Facet (now points) (now part) ⌝ }
-    ensures { λ r. ⌜ r ≡ nearPart (now (points .entry)) (now (corners .entry)) (now (begins .entry)) (now (part .entry)) ⌝ }
+    requires { ⌜ Neighboured (now points) (now corners) (now begins) (now edges) (now heads) ⌝ }
+    requires { ⌜ f < facets (now begins) ⌝ }
+    ensures { λ r. ⌜ r ≡ nearFacet (now (points .entry)) (now (corners .entry)) (now (begins .entry)) f ⌝ }
 {
+    let part = tables::part(corners, begins, f);
     let mut p = 0;
     while p < part.len() {
-        if is_near(points, corners, begins, ends, last, back, part, part[p]) {
-            return true;
+        let mut q = index::head_at(heads, tables::wide(part[p]));
+        while 0 < q {
+            let place = q - 1;
+            if is_outside(points, part, index::end_at(edges, place)) {
+                return true;
+            }
+            q = index::back_at(edges, place);
         }
         p += 1;
     }
@@ -109,25 +88,16 @@ fn near(
     points: &[i32],
     corners: &[u16],
     begins: &[u16],
-    ends: &[u16; 6144],
-    last: &[u16; 1024],
-    back: &[u16; 6144],
+    edges: &index::Edges,
+    heads: &index::Heads,
 ) -> bool
-    requires { ⌜ Measured (now points) (now corners) (now begins) × Leaving (now corners) (now begins) (now ends) (now last) (now back) ⌝ }
+    requires { ⌜ Neighboured (now points) (now corners) (now begins) (now edges) (now heads) ⌝ }
     ensures { λ r. ⌜ r ≡ near (now (points .entry)) (now (corners .entry)) (now (begins .entry)) ⌝ }
 {
     let m = begins.len() - 1;
     let mut f = 0;
     while f < m {
-        if near_part(
-            points,
-            corners,
-            begins,
-            ends,
-            last,
-            back,
-            tables::part(corners, begins, f),
-        ) {
+        if near_part(points, corners, begins, edges, heads, f) {
             return true;
         }
         f += 1;
@@ -143,15 +113,14 @@ pub fn outside(
     points: &[i32],
     corners: &[u16],
     begins: &[u16],
-    ends: &[u16; 6144],
-    last: &[u16; 1024],
-    back: &[u16; 6144],
+    edges: &index::Edges,
+    heads: &index::Heads,
 ) -> tables::Found
-    requires { ⌜ Passed (now points) (now corners) (now begins) × Leaving (now corners) (now begins) (now ends) (now last) (now back) ⌝ }
+    requires { ⌜ Ready (now points) (now corners) (now begins) (now edges) (now heads) ⌝ }
     ensures { λ r. ⌜ r ≡ outside (now (points .entry)) (now (corners .entry)) (now (begins .entry)) ⌝ }
 {
     if MOST_SCANNED < points.len() / 3 {
-        if !near(points, corners, begins, ends, last, back) {
+        if !near(points, corners, begins, edges, heads) {
             return tables::Found::Nothing;
         }
     }

@@ -30,7 +30,7 @@ pub unlike-entry : {corners begins : List ℕ} {edges : List (List ℕ)} {heads 
     → q ≡ acrossAt edges p
     → unanswered corners begins p
     ≡ (not (eqb (acrossAt edges q) p) || (not (eqb (from corners q) (endAt edges p)) || not (eqb (endAt edges q) (from corners p))))
-unlike-entry {q = q} I l e =
+unlike-entry {corners = corners} {q = q} I l e =
     let b : q < length corners = rw e (across-at-below I l) in
     rw (across-at-is I b, end-is I b, end-is I l, e ∙ across-at-is I l)
 

@@ -5,7 +5,7 @@ ghost use Prim.Native.Nat.{_<_};
 ghost use lib.IntN.{pos};
 ghost use lib.Signed.{ltZ};
 ghost use lib.ListN.{length, getD};
-ghost use Rattle.whole.specs.Bounds.{_within_};
+ghost use Rattle.whole.specs.Bounds.{Exact};
 ghost use Rattle.points.specs.Range.{limit, isOut, InRange};
 ghost use Rattle.points.specs.Points.{Vertex, Ranged, coordOf};
 
@@ -36,7 +36,7 @@ pub fn widen(x: i32) -> i64
 // Entry k of a run of coordinates.
 pub fn entry(run: &[i32], k: usize) -> i64
     requires { ⌜ InRange (now run) × (k < length (now run)) ⌝ }
-    ensures { λ r. ⌜ (r ≡ getD (now (run .entry)) k (pos 0)) × r within limit ⌝ }
+    ensures { λ r. ⌜ Exact limit (getD (now (run .entry)) k (pos 0)) r ⌝ }
 {
     widen(run[k])
 }
@@ -52,7 +52,7 @@ pub fn coord(points: &[i32], v: usize, k: usize) -> i32
 // The same in 64 bits.
 pub fn wide_coord(points: &[i32], v: usize, k: usize) -> i64
     requires { ⌜ Ranged (now points) × Vertex (now points) v × (k < 3) ⌝ }
-    ensures { λ r. ⌜ (r ≡ coordOf (now (points .entry)) v k) × r within limit ⌝ }
+    ensures { λ r. ⌜ Exact limit (coordOf (now (points .entry)) v k) r ⌝ }
 {
     widen(coord(points, v, k))
 }

@@ -35,7 +35,8 @@ module _ {v : ℕ} (few : v ≤ mostVertices) where
       size : (z : ℤ) → startOf (Number (clamp z)) < v → z ≡ pos (startOf (Number (clamp z)))
       size (pos n) l = ap pos (omega arith)
       size (negsuc n) l =
-          let e : startOf (Number (clamp (negsuc n))) ≡ noVertex = negative (clamp (negsuc n)) (clamp-below (negsuc n) (pos 0) {N = 0} (omega arith) (record { abs = omega arith })) in
+          let below = clamp-below (negsuc n) (pos 0) {N = 0} (omega arith) (record { abs = omega arith }) in
+          let e : startOf (Number (clamp (negsuc n))) ≡ noVertex = negative (clamp (negsuc n)) below in
           absurd (omega arith)
 
       go : (t : Bool) → isNumber word ≡ t → startOf (cond t (Number (clamp (value word))) Malformed) < v
@@ -75,7 +76,13 @@ pub record NamesDirection (input : List ℕ) (x y z : ℤ) : Type 0 where
 pub named-direction : {input : List ℕ} {x y z : ℤ} → NamesDirection input x y z → Permitted (direction x y z) → directionIn input ≡ direction x y z
 unfolding directionIn
 named-direction {input} n p =
-    rw (le-ltb longest (length input) (n .short), le-ltb 4 (length (words isBlank (split input))) (n .four), says-part (n .says-x) (p .x), says-part (n .says-y) (p .y), says-part (n .says-z) (p .z))
+    rw (
+      le-ltb longest (length input) (n .short),
+      le-ltb 4 (length (words isBlank (split input))) (n .four),
+      says-part (n .says-x) (p .x),
+      says-part (n .says-y) (p .y),
+      says-part (n .says-z) (p .z),
+    )
 
 -- every other input is 14: its direction is not permitted
 pub direction-named : (input : List ℕ) → Permitted (directionIn input) → let d = directionIn input in NamesDirection input (d .x) (d .y) (d .z)
@@ -87,7 +94,8 @@ direction-named input p = go (isCrowded input) refl p
 
     go : (t : Bool) → isCrowded input ≡ t
         → Permitted (cond t (direction noPart noPart noPart) (direction (other input 1) (other input 2) (other input 3)))
-        → let d = cond t (direction noPart noPart noPart) (direction (other input 1) (other input 2) (other input 3)) in NamesDirection input (d .x) (d .y) (d .z)
+        → let d = cond t (direction noPart noPart noPart) (direction (other input 1) (other input 2) (other input 3)) in
+        NamesDirection input (d .x) (d .y) (d .z)
     go true e p = absurd (omega (arith, p .x .abs))
     go false e p =
         let (a, b) = neither (ltb longest (length input)) (ltb 4 (length (words isBlank (split input)))) e in

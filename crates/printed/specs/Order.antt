@@ -6,14 +6,14 @@ use lib.IntN.{ℤ, pos}
 use lib.ListN.{length}
 use Rattle.points.specs.Points.{vertices}
 use Rattle.tape.specs.Reading.{readTape, pointsAt, cornersAt, beginsAt}
-use Rattle.tape.specs.declared.Outcome.the-variants.{Read, Refused}
+use Rattle.reading.specs.declared.Reading.the-variants.{Read, Refused}
 use Rattle.judge.specs.Judge.{judged}
 use Rattle.accepts.specs.Meaning.{is-measured}
 use Rattle.walk.specs.Walk.{walked}
 use Rattle.walk.specs.Meaning.{Told, told-is}
 use Rattle.walk.specs.declared.Walked.{Walked}
 use Rattle.lines.specs.Line.{numberOf}
-use Rattle.programs.specs.Tape.{trail, walkedTape}
+use Rattle.walk_tape.specs.Tape.{trail, walkedTape}
 use Rattle.input.specs.Input.{startIn, directionIn}
 use Rattle.programs.specs.Lines.{movesOf, walkNumbers}
 

@@ -1,4 +1,2 @@
 -- What the two programs print of a tape.
-pub mod Tape
 pub mod Lines
-pub mod Filled

@@ -9,7 +9,8 @@ use Rattle.answers.specs.declared.Answer.{Answer}
 use Rattle.walk.specs.declared.Walked.{Walked}
 use Rattle.lines.specs.Line.{numberOf, lineOf, lineIn, room, line-bytes}
 use Rattle.lines.specs.declared.Line.{Line}
-use Rattle.programs.specs.Tape.{judgedTape, walkedTape}
+use Rattle.judge_tape.specs.Tape.{judgedTape}
+use Rattle.walk_tape.specs.Tape.{walkedTape}
 use Rattle.input.specs.Input.{startIn, directionIn}
 
 -- "number and three places"

@@ -1,25 +1,7 @@
 // What the two programs print of a tape.
 ghost use mathlib.Core.Path.{_≡_};
 ghost use Rattle.lines.specs.Line.{lineIn};
-ghost use Rattle.programs.specs.Tape.{judgedTape, walkedTape};
 ghost use Rattle.programs.specs.Lines.{placesOf, judgeNumbers, movesOf, walkNumbers, Prints};
-
-// Reads a tape, then judges.
-fn judge_tape(tape: &[u8]) -> answers::Answer
-    ensures { λ r. ⌜ r ≡ judgedTape (now (tape .entry)) ⌝ }
-{
-    let mut points = [0i32; 3072];
-    let mut corners = [0u16; 6144];
-    let mut begins = [0u16; 2049];
-    let read = reader::read_tape(tape, &mut points, &mut corners, &mut begins);
-    if read.number != 0 {
-        return answers::Answer::refused(read.number, read.first, 0);
-    }
-    let p = read.first * 3;
-    let c = read.third;
-    let b = read.second + 1;
-    judge::judge(&points[..p], &corners[..c], &begins[..b])
-}
 
 // An answer's line: number and three places.
 fn places(a: answers::Answer) -> lines::Line
@@ -37,38 +19,7 @@ fn places(a: answers::Answer) -> lines::Line
 pub fn judge_line(tape: &[u8]) -> lines::Line
     ensures { λ r. ⌜ (r ≡ lineIn (judgeNumbers (now (tape .entry)))) × Prints r (judgeNumbers (now (tape .entry))) ⌝ }
 {
-    places(judge_tape(tape))
-}
-
-// Reads a tape, then walks.
-fn walk_tape(tape: &[u8], direction: direction::Direction, start: usize) -> walk::Walked
-    ensures { λ r. ⌜ r ≡ walkedTape (now (tape .entry)) direction start ⌝ }
-{
-    let mut points = [0i32; 3072];
-    let mut corners = [0u16; 6144];
-    let mut begins = [0u16; 2049];
-    let read = reader::read_tape(tape, &mut points, &mut corners, &mut begins);
-    if read.number != 0 {
-        let answer = answers::Answer::refused(read.number, 0, 0);
-        return walk::Walked {
-            answer,
-            vertex: 0,
-            height: 0,
-            moves: 0,
-        };
-    }
-    let p = read.first * 3;
-    let c = read.third;
-    let b = read.second + 1;
-    let mut trail = [0u16; 1024];
-    walk::walk(
-        &points[..p],
-        &corners[..c],
-        &begins[..b],
-        direction,
-        start,
-        &mut trail,
-    )
+    places(judge_tape::judge_tape(tape))
 }
 
 // A walk's line: number, vertex, height, moves.
@@ -89,5 +40,5 @@ fn moves(w: walk::Walked) -> lines::Line
 pub fn walk_line(tape: &[u8], input: &[u8]) -> lines::Line
     ensures { λ r. ⌜ (r ≡ lineIn (walkNumbers (now (tape .entry)) (now (input .entry)))) × Prints r (walkNumbers (now (tape .entry)) (now (input .entry))) ⌝ }
 {
-    moves(walk_tape(tape, input::direction_in(input), input::start_in(input)))
+    moves(walk_tape::walk_tape(tape, input::direction_in(input), input::start_in(input)))
 }

@@ -1,4 +1,4 @@
 -- The tape's reader.
 pub mod Answer
+pub mod Deciding
 pub mod Room
-pub mod Filling

@@ -1,107 +1,31 @@
-// The tape's reader.
+// The tape's reader: one pass decides, and one fills the lent tables.
 ghost use mathlib.Core.Path.{_≡_};
-ghost use Prim.Native.Nat.{_+_, _*_, _≤_, _<_};
-ghost use lib.ListN.{length, take};
-ghost use lib.Seq.{sets};
-ghost use Rattle.tables.specs.Tables.{mostCorners};
-ghost use Rattle.whole.specs.Over.{over};
-ghost use Rattle.tape.specs.Reading.{coordsAt, numbersAt, pointsAt, cornersAt, beginsAt};
-ghost use Rattle.tape.specs.Whole.{Facets};
-ghost use Rattle.reader.specs.Answer.{noRoom, reading, pointsAfter, cornersAfter, beginsAfter};
+ghost use Rattle.tape.specs.Reading.{readTape};
+ghost use Rattle.reader.specs.Answer.{reading, pointsAfter, cornersAfter, beginsAfter};
 
-pub const POINT_ROOM: usize = 3072;
-
-pub const CORNER_ROOM: usize = 6144;
-
-pub const BEGIN_ROOM: usize = 2049;
-
-// The reader's answer: 0 with V, F and corners, or a refusal's number with its byte offset.
-pub struct Reading {
-    pub number: u16,
-    pub first: usize,
-    pub second: usize,
-    pub third: usize,
-}
-
-// The numbers of a point's body, which starts at i, stored from p on.
-fn keep_point(points: &mut [i32], p: usize, tape: &[u8], i: usize)
-    requires { ⌜ (p + 3 ≤ length (now points)) × (i + 6 ≤ length (now tape)) ⌝ }
-    ensures { λ _. ⌜ now (points .exit) ≡ sets (now (points .entry)) p (coordsAt (now (tape .entry)) i) ⌝ }
+// The deciding pass: what the records add up to, or the first bad one.
+fn decide(tape: &[u8]) -> reading::Reading
+    ensures { λ r. ⌜ r ≡ readTape (now (tape .entry)) ⌝ }
 {
-    points[p] = tape::signed_at(tape, i);
-    points[p + 1] = tape::signed_at(tape, i + 2);
-    points[p + 2] = tape::signed_at(tape, i + 4);
-}
-
-// The points of n records from `at` on.
-fn fill_points(tape: &[u8], at: usize, points: &mut [i32], n: usize)
-    requires { ⌜ (at + 7 * n ≤ length (now tape)) × (n * 3 ≤ length (now points)) ⌝ }
-    ensures { λ _. ⌜ now (points .exit) ≡ over (pointsAt (now (tape .entry)) at n) (now (points .entry)) ⌝ }
-{
+    let mut at = 0;
     let mut v = 0;
-    while v < n {
-        keep_point(points, v * 3, tape, at + 7 * v + 1);
-        v += 1;
-    }
-}
-
-// The numbers of a facet's body, which starts at i, gathered in a tray.
-fn gather(tray: &mut [u16], tape: &[u8], i: usize, n: usize)
-    requires { ⌜ (n ≤ length (now tray)) × (i + 2 * n ≤ length (now tape)) ⌝ }
-    ensures { λ _. ⌜ now (tray .exit) ≡ over (numbersAt (now (tape .entry)) i n) (now (tray .entry)) ⌝ }
-{
-    let mut k = 0;
-    while k < n {
-        tray[k] = tape::unsigned_at(tape, i + 2 * k);
-        k += 1;
-    }
-}
-
-// The first n numbers of a tray, stored from c on.
-fn store(corners: &mut [u16], c: usize, tray: &[u16], n: usize)
-    requires { ⌜ (n ≤ length (now tray)) × (c + n ≤ length (now corners)) ⌝ }
-    ensures { λ _. ⌜ now (corners .exit) ≡ sets (now (corners .entry)) c (take n (now (tray .entry))) ⌝ }
-{
-    let mut k = 0;
-    while k < n {
-        corners[c + k] = tray[k];
-        k += 1;
-    }
-}
-
-// The corners and the begins of n facets' records from `from` on.
-fn fill_facets(tape: &[u8], from: usize, corners: &mut [u16], begins: &mut [u16], n: usize)
-    requires { ⌜ Facets (now tape) from n × (mostCorners ≤ length (now corners)) × (n < length (now begins)) ⌝ }
-    ensures { λ _. ⌜ now (corners .exit) ≡ over (cornersAt (now (tape .entry)) from n) (now (corners .entry)) ⌝ }
-    ensures { λ _. ⌜ now (begins .exit) ≡ over (beginsAt (now (tape .entry)) from (n + 1)) (now (begins .entry)) ⌝ }
-{
-    let mut tray = [0u16; 12];
-    let mut at = from;
-    let mut c = 0;
     let mut f = 0;
-    while f < n {
-        let sides = tape[at] as usize;
-        begins[f] = c as u16;
-        gather(&mut tray, tape, at + 1, sides);
-        store(corners, c, &tray, sides);
-        at += 1 + 2 * sides;
-        c += sides;
-        f += 1;
+    let mut c = 0;
+    loop {
+        match look::look(tape, at, v, f, c) {
+            tape::Next::Point => {
+                at += 7;
+                v += 1;
+            }
+            tape::Next::Facet(n) => {
+                at += 1 + 2 * n;
+                f += 1;
+                c += n;
+            }
+            tape::Next::End => return reading::Reading::Read(v, f, c),
+            tape::Next::Bad(number, offset) => return reading::Reading::Refused(number, offset),
+        }
     }
-    begins[n] = c as u16;
-}
-
-// Whether a lent table is too short, by how many entries each has.
-fn no_room(points: usize, corners: usize, begins: usize) -> bool
-    ensures { λ r. ⌜ r ≡ noRoom points corners begins ⌝ }
-{
-    if points < POINT_ROOM {
-        return true;
-    }
-    if corners < CORNER_ROOM {
-        return true;
-    }
-    begins < BEGIN_ROOM
 }
 
 // Reads a tape into the lent tables.
@@ -110,36 +34,21 @@ pub fn read_tape(
     points: &mut [i32],
     corners: &mut [u16],
     begins: &mut [u16],
-) -> Reading
+) -> reading::Reading
     ensures { λ r. ⌜ r ≡ reading (now (tape .entry)) (now (points .entry)) (now (corners .entry)) (now (begins .entry)) ⌝ }
     ensures { λ _. ⌜ now (points .exit) ≡ pointsAfter (now (tape .entry)) (now (points .entry)) (now (corners .entry)) (now (begins .entry)) ⌝ }
     ensures { λ _. ⌜ now (corners .exit) ≡ cornersAfter (now (tape .entry)) (now (points .entry)) (now (corners .entry)) (now (begins .entry)) ⌝ }
     ensures { λ _. ⌜ now (begins .exit) ≡ beginsAfter (now (tape .entry)) (now (points .entry)) (now (corners .entry)) (now (begins .entry)) ⌝ }
 {
-    if no_room(points.len(), corners.len(), begins.len()) {
-        return Reading {
-            number: 16,
-            first: 0,
-            second: 0,
-            third: 0,
-        };
+    if reading::no_room(points.len(), corners.len(), begins.len()) {
+        return reading::Reading::Refused(16, 0);
     }
-    match look::decide(tape) {
-        tape::Outcome::Read(v, f, c) => {
-            fill_points(tape, 0, points, v);
-            fill_facets(tape, 7 * v, corners, begins, f);
-            Reading {
-                number: 0,
-                first: v,
-                second: f,
-                third: c,
-            }
+    match decide(tape) {
+        reading::Reading::Read(v, f, c) => {
+            points_in::fill_points(tape, 0, points, v);
+            facets_in::fill_facets(tape, 7 * v, corners, begins, f);
+            reading::Reading::Read(v, f, c)
         }
-        tape::Outcome::Refused(number, offset) => Reading {
-            number,
-            first: offset,
-            second: 0,
-            third: 0,
-        },
+        reading::Reading::Refused(number, offset) => reading::Reading::Refused(number, offset),
     }
 }

@@ -4,15 +4,14 @@ ghost use mathlib.Core.List.{[], _∷_};
 ghost use Prim.Native.Nat.{_+_, _*_, _≤_, _<_};
 ghost use lib.ListN.{length};
 ghost use lib.Seq.{sets};
-ghost use mir.Syntax.{w16};
-ghost use mir.Val.{SFits};
 ghost use Rattle.tables.specs.Tables.{mostSides};
 ghost use Rattle.whole.specs.Over.{over};
 ghost use Rattle.tape.specs.Records.{point, facet, bytes, packed, framed};
+ghost use Rattle.records.specs.Records.{PutsPoint};
 
 // A point's record, at the beginning of the unwritten rest.
 pub fn put_point(rest: &mut [u8], x: i32, y: i32, z: i32)
-    requires { ⌜ (7 ≤ length (now rest)) × SFits w16 x × SFits w16 y × SFits w16 z ⌝ }
+    requires { ⌜ PutsPoint (now rest) x y z ⌝ }
     ensures { λ _. ⌜ now (rest .exit) ≡ over (bytes (point x y z)) (now (rest .entry)) ⌝ }
 {
     rest[0] = 1;

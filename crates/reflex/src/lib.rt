@@ -5,11 +5,11 @@ ghost use lib.ListN.{length};
 ghost use Rattle.whole.specs.First.{firstBelow};
 ghost use Rattle.points.specs.Points.{Vertex};
 ghost use Rattle.tables.specs.Tables.{facets, sides, facetOf};
-ghost use Rattle.edges.specs.Homes.{Homes};
-ghost use Rattle.pair.specs.Across.{Across};
-ghost use Rattle.flat.specs.Facet.{Facet, Measured};
-ghost use Rattle.reflex.specs.Rules.{isNotInside, someNotInside, reflexAt, isReflex, reflex};
 ghost use Rattle.edges.specs.Edge.{facetAcross};
+ghost use Rattle.pair.specs.Across.{Crossed};
+ghost use Rattle.flat.specs.Facet.{Facet};
+ghost use Rattle.reflex.specs.Rules.{isNotInside, someNotInside, reflexAt, isReflex, reflex};
+ghost use Rattle.reflex.specs.Fold.{Foldable};
 
 // Whether corner c, other than a and b, is not strictly inside a facet's plane.
 fn is_not_inside(points: &[i32], part: &[u16], a: u16, b: u16, c: u16) -> bool
@@ -53,15 +53,16 @@ fn is_reflex(points: &[i32], part: &[u16], other: &[u16], p: usize) -> bool
 fn part_across<'a>(
     corners: &'a [u16],
     begins: &[u16],
-    home: &[u16; 6144],
-    across: &[u16; 6144],
+    edges: &index::Edges,
+    heads: &index::Heads,
     q: usize,
 ) -> &'a [u16]
-    requires { ⌜ Homes (now corners) (now begins) (now home) × Across (now corners) (now begins) (now across) × (q < length (now corners)) ⌝ }
+    requires { ⌜ Crossed (now corners) (now begins) (now edges) (now heads) ⌝ }
+    requires { ⌜ q < length (now corners) ⌝ }
     ensures { λ r. ⌜ now r ≡ facetOf (now (corners .entry)) (now (begins .entry)) (facetAcross (now (corners .entry)) (now (begins .entry)) q) ⌝ }
 {
-    let other = tables::wide(across[q]);
-    tables::part(corners, begins, tables::wide(home[other]))
+    let other = index::across_at(edges, q);
+    tables::part(corners, begins, index::home_at(edges, other))
 }
 
 // The first position of facet f at which REFLEX applies, or its number of sides.
@@ -69,19 +70,19 @@ fn first_reflex(
     points: &[i32],
     corners: &[u16],
     begins: &[u16],
-    home: &[u16; 6144],
-    across: &[u16; 6144],
+    edges: &index::Edges,
+    heads: &index::Heads,
     f: usize,
 ) -> usize
-    requires { ⌜ Measured (now points) (now corners) (now begins) × Homes (now corners) (now begins) (now home) ⌝ }
-    requires { ⌜ Across (now corners) (now begins) (now across) × (f < facets (now begins)) ⌝ }
+    requires { ⌜ Foldable (now points) (now corners) (now begins) (now edges) (now heads) ⌝ }
+    requires { ⌜ f < facets (now begins) ⌝ }
     ensures { λ r. ⌜ r ≡ firstBelow (isReflex (now (points .entry)) (now (corners .entry)) (now (begins .entry)) f) (sides (now (begins .entry)) f) ⌝ }
 {
     let part = tables::part(corners, begins, f);
-    let begin = tables::wide(begins[f]);
+    let start = tables::wide(begins[f]);
     let mut p = 0;
     while p < part.len() {
-        let other = part_across(corners, begins, home, across, begin + p);
+        let other = part_across(corners, begins, edges, heads, start + p);
         if is_reflex(points, part, other, p) {
             return p;
         }
@@ -95,19 +96,17 @@ pub fn reflex(
     points: &[i32],
     corners: &[u16],
     begins: &[u16],
-    home: &[u16; 6144],
-    across: &[u16; 6144],
+    edges: &index::Edges,
+    heads: &index::Heads,
 ) -> tables::Found
-    requires { ⌜ Measured (now points) (now corners) (now begins) × Homes (now corners) (now begins) (now home) ⌝ }
-    requires { ⌜ Across (now corners) (now begins) (now across) ⌝ }
+    requires { ⌜ Foldable (now points) (now corners) (now begins) (now edges) (now heads) ⌝ }
     ensures { λ r. ⌜ r ≡ reflex (now (points .entry)) (now (corners .entry)) (now (begins .entry)) ⌝ }
 {
     let m = begins.len() - 1;
     let mut f = 0;
     while f < m {
-        let p = first_reflex(points, corners, begins, home, across, f);
-        let sides = tables::wide(begins[f + 1]) - tables::wide(begins[f]);
-        if p < sides {
+        let p = first_reflex(points, corners, begins, edges, heads, f);
+        if p < tables::part(corners, begins, f).len() {
             return tables::Found::At(f, p);
         }
         f += 1;

@@ -30,12 +30,12 @@ abbrev pub start : List ℕ → ℕ → ℕ
 start corners v = lastOf corners (length corners) v - 1
 
 -- after i + 1 steps from p it is p again
-abbrev pub backAt : List ℕ → List ℕ → ℕ → ℕ → Bool
-backAt corners begins p i = eqb (iterate (roundOf corners begins) (i + 1) p) p
+abbrev pub isBack : List ℕ → List ℕ → ℕ → ℕ → Bool
+isBack corners begins p i = eqb (iterate (roundOf corners begins) (i + 1) p) p
 
 -- stepping comes back before each edge that leaves v was met
 abbrev pub broken : List ℕ → List ℕ → ℕ → Bool
-broken corners begins v = anyBelow (backAt corners begins (start corners v)) (degree corners v - 1)
+broken corners begins v = anyBelow (isBack corners begins (start corners v)) (degree corners v - 1)
 
 abbrev pub ring : ℕ → List ℕ → List ℕ → Found
 ring n corners begins = lowest n (broken corners begins)
@@ -79,7 +79,7 @@ module _ {corners begins : List ℕ} (L : Laid corners begins) (P : Paired corne
       no-return : NoReturn (roundOf corners begins) (start corners v) k
       no-return j a b r =
           let s : j - 1 + 1 ≡ j = omega arith in
-          let n = any-false (backAt corners begins (start corners v)) (k - 1) e (j - 1) (omega arith) in
+          let n = any-false (isBack corners begins (start corners v)) (k - 1) e (j - 1) (omega arith) in
           eqb-false _ _ n (ap (λ i. iterate (roundOf corners begins) i (start corners v)) s ∙ r)
 
       met : (p q : ℕ) → p < length corners → q < length corners → from corners p ≡ v → from corners q ≡ v → Stepped corners begins p q
@@ -91,12 +91,12 @@ module _ {corners begins : List ℕ} (L : Laid corners begins) (P : Paired corne
           (j, x)
 
   -- and the other way, where each is reached from one
-  pub ring-from : {p : ℕ} → p < length corners → from corners p ≡ v → ((q : ℕ) → q < length corners → from corners q ≡ v → Stepped corners begins p q)
-      → broken corners begins v ≡ false
+  pub ring-from : {p : ℕ} → p < length corners → from corners p ≡ v
+      → ((q : ℕ) → q < length corners → from corners q ≡ v → Stepped corners begins p q) → broken corners begins v ≡ false
   ring-from {p} l s all = any-none back (degree corners v - 1) (λ i b. is-false (back i) (λ e. early i b (eqb-true _ _ e)))
     where
       back : ℕ → Bool
-      back = backAt corners begins (start corners v)
+      back = isBack corners begins (start corners v)
 
       early : (i : ℕ) → i < degree corners v - 1 → iterate (roundOf corners begins) (i + 1) (start corners v) ≡ start corners v → ⊥
       early i b r =
@@ -111,7 +111,7 @@ module _ {corners begins : List ℕ} (L : Laid corners begins) (P : Paired corne
         let z = started corners v h in
         let s = eqb-true _ _ (z .leaving) in
         ring-from (z .below) s (λ q m t. o .met _ q (z .below) m s t)
-    | no h ↦ any-none (backAt corners begins (start corners v)) (degree corners v - 1) (λ i b. absurd (omega arith))
+    | no h ↦ any-none (isBack corners begins (start corners v)) (degree corners v - 1) (λ i b. absurd (omega arith))
   ]
 
 -- ---- the ring that starts at the first facet at the vertex

@@ -4,16 +4,17 @@ use mathlib.Core.List.{List}
 use Prim.Native.Nat.{ℕ, _+_, _-_, _<_}
 use native.Mathlib.Omega.{arith}
 use native.Mathlib.Decide.{ℕ-discrete}
-use lib.ListN.{length, getD}
+use lib.ListN.{length}
 use Rattle.whole.specs.Orbit.{Steps}
-use Rattle.tables.specs.Tables.{begin, end, homeOf, nextOf, from}
+use Rattle.tables.specs.Tables.{begin, end, homeOf, nextIn, nextOf, from}
 use Rattle.tables.specs.Size.{Laid}
 use Rattle.tables.specs.Places.{In, home, next-below, next-home, next-once, next-up, next-wrap, in-facet}
-use Rattle.edges.specs.Homes.{Homes}
+use Rattle.index.specs.Entries.{homeAt, acrossAt}
 use Rattle.edges.specs.Chains.{leaves}
-use Rattle.pair.specs.Pair.{Paired}
 use Rattle.edges.specs.Edge.{acrossOf}
-use Rattle.pair.specs.Across.{across, across-once, across-twice, Across}
+use Rattle.edges.specs.Index.{home-is, across-at-is, across-at-below}
+use Rattle.pair.specs.Pair.{Paired}
+use Rattle.pair.specs.Across.{across, across-once, across-twice, Crossed}
 
 unfoldable pub roundOf : List ℕ → List ℕ → ℕ → ℕ
 roundOf corners begins p = nextOf begins (acrossOf corners begins p)
@@ -70,13 +71,8 @@ module _ {corners begins : List ℕ} (L : Laid corners begins) (P : Paired corne
     once = λ p q l m e f. step-once l m;
   }
 
--- ---- what the code's tables hold: the facet of each place, and the place across each edge
-
-pub record Beyond (corners begins home across : List ℕ) : Type 0 where
-  pub homes : Homes corners begins home
-  pub crossed : Across corners begins across
-
-pub step-entry : {corners begins home across : List ℕ} {p : ℕ} → Beyond corners begins home across → p < length corners
-    → nextOf begins (getD across p 0) ≡ roundOf corners begins p
-unfolding roundOf
-step-entry {begins = begins} {p = p} B l = ap (nextOf begins) (B .crossed .filled .at p l)
+-- what the code reads: the place across, and its facet
+pub step-entry : {corners begins : List ℕ} {edges : List (List ℕ)} {heads : List ℕ} {p q f : ℕ} → Crossed corners begins edges heads
+    → p < length corners → q ≡ acrossAt edges p → f ≡ homeAt edges q → nextIn begins f q ≡ roundOf corners begins p
+unfolding roundOf nextOf
+step-entry C l e h = rw (h, e, home-is (C .indexed) (across-at-below (C .indexed) l), across-at-is (C .indexed) l)

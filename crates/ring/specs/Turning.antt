@@ -4,62 +4,92 @@ use mathlib.Core.Bool.{true, false}
 use mathlib.Core.List.{List}
 use Prim.Native.Nat.{ℕ, _+_, _-_, _≤_, _<_}
 use native.Mathlib.Omega.{arith}
-use lib.ListN.{length, getD}
+use lib.ListN.{length}
 use borrow.Author.Tests.{eq-eqb, ne-eqb}
 use Rattle.whole.specs.First.{None, none-0, none-more, any-hit, any-miss}
 use Rattle.whole.specs.Count.{bit, count-but}
 use Rattle.whole.specs.Orbit.{iterate, iterate-more}
-use Rattle.tables.specs.Size.{Laid}
-use Rattle.edges.specs.Chains.{leaves, Chains, Met, met-0, met-more, met-all}
-use Rattle.pair.specs.Pair.{Paired}
+use Rattle.tables.specs.Tables.{mostVertices, mostCorners}
+use Rattle.index.specs.Entries.{backAt, headAt}
+use Rattle.edges.specs.Chains.{leaves, Chains, On, Met, falls, met-0, met-more, met-all}
+use Rattle.edges.specs.Index.{leaves-each}
+use Rattle.edges.specs.Along.{link-place}
+use Rattle.pair.specs.Across.{Crossed}
 use Rattle.ring.specs.Step.{roundOf, step-below}
-use Rattle.ring.specs.Ring.{start, backAt, broken}
+use Rattle.ring.specs.Ring.{start, isBack, broken}
 
 -- after i steps from p, none of which led back, it stands at q; the chain has i + 1 places before link k
-pub record Turning (corners begins : List ℕ) (v p q k : ℕ) : Type 0 where
+pub record Turning (corners begins : List ℕ) (edges : List (List ℕ)) (heads : List ℕ) (v p q k : ℕ) : Type 0 where
+  pub crossed : Crossed corners begins edges heads
   pub i : ℕ
   pub first : p ≡ start corners v
   pub at : q ≡ iterate (roundOf corners begins) i p
   pub below : q < length corners
-  pub none : None (backAt corners begins p) i
+  pub none : None (isBack corners begins p) i
   pub met : Met corners v (leaves corners v) (i + 1) k
 
-next-at : {corners begins : List ℕ} {v p q k r : ℕ} (T : Turning corners begins v p q k) → r ≡ roundOf corners begins q → r ≡ iterate (roundOf corners begins) (T .i + 1) p
-next-at T s = rw (iterate-more, ← T .at) s
+module _ {corners begins : List ℕ} {edges : List (List ℕ)} {heads : List ℕ} (C : Crossed corners begins edges heads) where
+  chains : Chains corners edges heads (length corners)
+  chains = leaves-each (C .indexed) .chains
 
-module _ {corners last back : List ℕ} (C : Chains corners last back (length corners)) {v : ℕ} where
-  pub turning-0 : (begins : List ℕ) (p : ℕ) → v < 1024 → getD last v 0 ≡ p + 1 → Turning corners begins v p p (getD back p 0)
-  unfolding iterate
-  turning-0 begins p l e =
-      let m = met-0 C (λ p x. x) l in
-      let o = m .on in
-      let z : getD last v 0 - 1 ≡ p = omega arith in
-      let n = rw z at (met-more C (λ p x. x) (omega arith) m (sym (ap bit (eq-eqb _ _ (o .leads (omega arith)))))) in
-      record { i = 0; first = sym z ∙ ap (λ q. q - 1) (C .heads .at v l); at = refl; below = omega (arith, o .upto); none = none-0 _; met = n }
+  module _ {v : ℕ} where
+    -- every place of the chain leaves v
+    met-next : {n q : ℕ} → Met corners v (leaves corners v) n q → 0 < q → Met corners v (leaves corners v) (n + 1) (backAt edges (q - 1))
+    met-next m h = met-more chains (λ p x. x) h m (sym (ap bit (eq-eqb _ _ (m .on .leads h))))
 
-  -- no edge leaves v
-  pub turning-none : (begins : List ℕ) → v < 1024 → getD last v 0 ≡ 0 → false ≡ broken corners begins v
-  turning-none begins l e =
-      let n = met-all (met-0 C (λ p x. x) l) (omega arith) in
-      any-miss (none-0 _) (omega arith) (omega arith)
+    link-small : {q : ℕ} → On corners v q → 0 < q → q - 1 < mostCorners
+    link-small o h = link-place (leaves-each (C .indexed)) o h .1
 
-  pub turning-more : {begins : List ℕ} {p q k r : ℕ} → Turning corners begins v p q k → Laid corners begins → Paired corners begins → 0 < k → r ≡ roundOf corners begins q → (r ≡ p → ⊥)
-      → Turning corners begins v p r (getD back (k - 1) 0)
-  turning-more T L P h s d = record {
-    i = T .i + 1;
-    first = T .first;
-    at = next-at T s;
-    below = rw s (step-below L P (T .below));
-    none = none-more (T .none) (rw (← next-at T s) (ne-eqb _ _ d));
-    met = met-more C (λ p x. x) h (T .met) (sym (ap bit (eq-eqb _ _ (T .met .on .leads h))));
-  }
+    module _ (l : v < mostVertices) where
+      begun : Met corners v (leaves corners v) 0 (headAt heads v)
+      begun = met-0 chains (λ p x. x) l
 
-module _ {corners begins : List ℕ} {v p q k : ℕ} (T : Turning corners begins v p q k) where
-  pub turning-back : {r : ℕ} → 0 < k → r ≡ roundOf corners begins q → r ≡ p → true ≡ broken corners begins v
-  turning-back h s e =
-      let f = leaves corners v in
-      let c = count-but f (k - 1) k (omega arith) (eq-eqb _ _ (T .met .on .leads h)) in
-      rw (← T .first) (any-hit (T .none) (eq-eqb _ _ (sym (next-at T s) ∙ e)) (omega (arith, T .met .sum)))
+      pub first-small : 0 < headAt heads v → headAt heads v - 1 < mostCorners
+      first-small h = link-small (begun .on) h
+
+      pub turning-0 : 0 < headAt heads v → Turning corners begins edges heads v (headAt heads v - 1) (headAt heads v - 1) (backAt edges (headAt heads v - 1))
+      unfolding iterate
+      turning-0 h = record {
+        crossed = C;
+        i = 0;
+        first = ap (λ q. q - 1) (chains .firsts v l);
+        at = refl;
+        below = omega (arith, begun .on .upto);
+        none = none-0 _;
+        met = met-next begun h;
+      }
+
+      -- no edge leaves v
+      pub turning-none : headAt heads v ≡ 0 → false ≡ broken corners begins v
+      turning-none e = let n = met-all begun (omega arith) in any-miss (none-0 _) (omega arith) (omega arith)
+
+module _ {corners begins : List ℕ} {edges : List (List ℕ)} {heads : List ℕ} {v p q k : ℕ} (T : Turning corners begins edges heads v p q k) where
+  module _ (h : 0 < k) where
+    pub turn-small : k - 1 < mostCorners
+    turn-small = link-small (T .crossed) (T .met .on) h
+
+    pub turn-falls : backAt edges (k - 1) < k
+    turn-falls = falls (chains (T .crossed)) h (T .met .on)
+
+    module _ {r : ℕ} (s : r ≡ roundOf corners begins q) where
+      next-at : r ≡ iterate (roundOf corners begins) (T .i + 1) p
+      next-at = rw (iterate-more, ← T .at) s
+
+      pub turning-more : (r ≡ p → ⊥) → Turning corners begins edges heads v p r (backAt edges (k - 1))
+      turning-more d = record {
+        crossed = T .crossed;
+        i = T .i + 1;
+        first = T .first;
+        at = next-at;
+        below = rw s (step-below (T .crossed .indexed .tables .laid) (T .crossed .paired) (T .below));
+        none = none-more (T .none) (rw (← next-at) (ne-eqb _ _ d));
+        met = met-next (T .crossed) (T .met) h;
+      }
+
+      pub turning-back : r ≡ p → true ≡ broken corners begins v
+      turning-back e =
+          let c = count-but (leaves corners v) (k - 1) k (omega arith) (eq-eqb _ _ (T .met .on .leads h)) in
+          rw (← T .first) (any-hit (T .none) (eq-eqb _ _ (sym next-at ∙ e)) (omega (arith, T .met .sum)))
 
   pub turning-end : k ≤ 0 → false ≡ broken corners begins v
-  turning-end h = rw (← T .first) (any-miss (T .none) (omega (arith, met-all (T .met) h)) (omega (arith, met-all (T .met) h)))
+  turning-end h = let n = met-all (T .met) h in rw (← T .first) (any-miss (T .none) (omega arith) (omega arith))

@@ -9,11 +9,18 @@ use Rattle.space.specs.Vectors.{_-_, det}
 use Rattle.space.specs.Rows.{vecOf, listOf}
 use Rattle.sides.specs.declared.Side.{Side}
 use Rattle.sides.specs.declared.Side.the-variants.{Inside, On, Outside}
-use Rattle.points.specs.Points.{coordOf, point}
+use Rattle.points.specs.Points.{Vertex, Ranged, coordOf, point}
 use Rattle.space.specs.Nought.{isBelow, isAbove, isNought, zero-is}
 use mathlib.Core.Path.{_≡_, refl, sym}
 use lib.Signed.{_<ℤ_}
 use Rattle.whole.specs.Order.{ltZ-true, true-ltZ}
+
+-- three vertices of points within the limits
+pub record Three (points : List ℤ) (a b c : ℕ) : Type 0 where
+  pub ranged : Ranged points
+  pub first : Vertex points a
+  pub second : Vertex points b
+  pub third : Vertex points c
 
 -- coordinate k of b - a
 unfoldable pub differenceOf : List ℤ → ℕ → ℕ → ℕ → ℤ

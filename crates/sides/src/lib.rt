@@ -1,14 +1,15 @@
 // Which side of a plane a point is on, and which side of an edge, by the determinant of three rows of three.
 ghost use mathlib.Core.Path.{_≡_};
 ghost use Prim.Native.Nat.{_<_};
-ghost use Rattle.space.specs.Rows.{Difference, Row, longest, widest};
+ghost use Rattle.whole.specs.Bounds.{Exact};
+ghost use Rattle.space.specs.Rows.{Row, ExactRow, longest, widest};
 ghost use Rattle.points.specs.Points.{Vertex, Ranged};
-ghost use Rattle.sides.specs.Sides.{differenceOf, rowOf, normalOf, sign, sideOf, inLine, isLeft, isInside, isOn};
+ghost use Rattle.sides.specs.Sides.{Three, differenceOf, rowOf, normalOf, sign, sideOf, inLine, isLeft, isInside, isOn};
 
 // Coordinate k of the step from a to b.
 fn difference(points: &[i32], a: u16, b: u16, k: usize) -> i64
     requires { ⌜ Ranged (now points) × Vertex (now points) a × Vertex (now points) b × (k < 3) ⌝ }
-    ensures { λ r. ⌜ (r ≡ differenceOf (now (points .entry)) a b k) × Difference r ⌝ }
+    ensures { λ r. ⌜ Exact longest (differenceOf (now (points .entry)) a b k) r ⌝ }
 {
     points::wide_coord(points, b as usize, k) - points::wide_coord(points, a as usize, k)
 }
@@ -16,7 +17,7 @@ fn difference(points: &[i32], a: u16, b: u16, k: usize) -> i64
 // The step from a to b.
 fn row(points: &[i32], a: u16, b: u16) -> [i64; 3]
     requires { ⌜ Ranged (now points) × Vertex (now points) a × Vertex (now points) b ⌝ }
-    ensures { λ r. ⌜ (r ≡ rowOf (now (points .entry)) a b) × Row longest r ⌝ }
+    ensures { λ r. ⌜ ExactRow longest (rowOf (now (points .entry)) a b) r ⌝ }
 {
     [
         difference(points, a, b, 0),
@@ -69,36 +70,34 @@ pub fn is_on(side: Side) -> bool
 
 // The side of the plane through a, b and c that d is on.
 pub fn side_of(points: &[i32], a: u16, b: u16, c: u16, d: u16) -> Side
-    requires { ⌜ Ranged (now points) ⌝ }
-    requires { ⌜ Vertex (now points) a × Vertex (now points) b × Vertex (now points) c × Vertex (now points) d ⌝ }
+    requires { ⌜ Three (now points) a b c ⌝ }
+    requires { ⌜ Vertex (now points) d ⌝ }
     ensures { λ r. ⌜ r ≡ sideOf (now (points .entry)) a b c d ⌝ }
 {
-    sign(space::determinant([row(points, a, b), row(points, a, c), row(points, a, d)]))
+    sign(rows::determinant([row(points, a, b), row(points, a, c), row(points, a, d)]))
 }
 
 // The normal of the plane through a, b and c.
 pub fn normal(points: &[i32], a: u16, b: u16, c: u16) -> [i64; 3]
-    requires { ⌜ Ranged (now points) ⌝ }
-    requires { ⌜ Vertex (now points) a × Vertex (now points) b × Vertex (now points) c ⌝ }
-    ensures { λ r. ⌜ (r ≡ normalOf (now (points .entry)) a b c) × Row widest r ⌝ }
+    requires { ⌜ Three (now points) a b c ⌝ }
+    ensures { λ r. ⌜ ExactRow widest (normalOf (now (points .entry)) a b c) r ⌝ }
 {
-    space::cross(row(points, a, b), row(points, a, c))
+    rows::cross(row(points, a, b), row(points, a, c))
 }
 
 // Whether a, b and c lie in line: their plane's normal is nought.
 pub fn in_line(points: &[i32], a: u16, b: u16, c: u16) -> bool
-    requires { ⌜ Ranged (now points) ⌝ }
-    requires { ⌜ Vertex (now points) a × Vertex (now points) b × Vertex (now points) c ⌝ }
+    requires { ⌜ Three (now points) a b c ⌝ }
     ensures { λ r. ⌜ r ≡ inLine (now (points .entry)) a b c ⌝ }
 {
-    space::is_nought(normal(points, a, b, c))
+    rows::is_nought(normal(points, a, b, c))
 }
 
 // Whether c lies strictly left of the edge from a to b, seen against the normal n.
 pub fn is_left(points: &[i32], n: [i64; 3], a: u16, b: u16, c: u16) -> bool
-    requires { ⌜ Ranged (now points) × Row widest n ⌝ }
-    requires { ⌜ Vertex (now points) a × Vertex (now points) b × Vertex (now points) c ⌝ }
+    requires { ⌜ Three (now points) a b c ⌝ }
+    requires { ⌜ Row widest n ⌝ }
     ensures { λ r. ⌜ r ≡ isLeft (now (points .entry)) n a b c ⌝ }
 {
-    space::is_above(space::determinant([n, row(points, a, b), row(points, a, c)]))
+    space::is_above(rows::determinant([n, row(points, a, b), row(points, a, c)]))
 }

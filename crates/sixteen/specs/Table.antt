@@ -14,7 +14,8 @@ use Rattle.space.specs.Vectors.{_-_, _·_, det}
 use Rattle.points.specs.Points.{coordOf}
 use Rattle.tables.specs.Tables.{homeOf, nextOf}
 use Rattle.tables.specs.Size.{isSize}
-use Rattle.answers.specs.Answer.{accepted, refused}
+use Rattle.answers.specs.Answer.{accepted, fault, passed, ofLength}
+use Rattle.answers.specs.Order.{firstOf}
 use Rattle.answers.specs.declared.Answer.{Answer}
 use Rattle.edges.specs.Edge.{acrossOf}
 use Rattle.ring.specs.Step.{roundOf}
@@ -30,7 +31,8 @@ use Rattle.climb.specs.Course.{after, stood}
 use Rattle.walk.specs.Walk.{walked, trailAfter}
 use Rattle.direction.specs.declared.Direction.{Direction}
 use Rattle.walk.specs.declared.Walked.{Walked}
-use Rattle.outline.specs.Outline.{coordOf as coordOf², before, after as after², few, isGreater, verdict, judgedTurns, judgedOutline}
+use Rattle.once_round.specs.Words.{coordOf as coordOf², before, after as after², few, isGreater}
+use Rattle.outline.specs.Outline.{verdict, judgedTurns, judgedOutline}
 use Rattle.outline.specs.declared.Verdict.{Verdict}
 use Rattle.tape.specs.Little.{bytesOf, numberAt, bits, signed}
 use Rattle.whole.specs.Joined.{joined}
@@ -38,7 +40,8 @@ use Rattle.whole.specs.Over.{over}
 use Rattle.tape.specs.Records.{packed}
 use Rattle.tape.specs.Reading.{lookAt, run, readTape, place}
 use Rattle.reader.specs.Answer.{reading, pointsAfter, cornersAfter, beginsAfter}
-use Rattle.reader.specs.declared.Reading.{Reading}
+use Rattle.reading.specs.declared.Reading.{Reading}
+use Rattle.reading.specs.declared.Reading.the-variants.{Read, Refused}
 use Rattle.writer.specs.Answer.{written, bufferAfter}
 
 -- ---- what can be asked, and what is answered
@@ -71,22 +74,20 @@ pub data Reply : Type 0 where
 -- what the functions promise to answer
 abbrev pub answer : Question → Reply
 answer (judge s) = ofJudge (judged (s .points) (s .corners) (s .begins))
-answer (walk s d start trail) = ofWalk (walked (s .points) (s .corners) (s .begins) d start trail) (trailAfter (s .points) (s .corners) (s .begins) d start trail)
+answer (walk s d start trail) =
+    ofWalk (walked (s .points) (s .corners) (s .begins) d start trail)
+    (trailAfter (s .points) (s .corners) (s .begins) d start trail)
 answer (outline points) = ofOutline (judgedOutline points)
 answer (write s buffer) = ofWriter (written (s .points) (s .corners) (s .begins) buffer) (bufferAfter (s .points) (s .corners) (s .begins) buffer)
 answer (read bytes s) =
     ofReader (reading bytes (s .points) (s .corners) (s .begins))
-    (tables (pointsAfter bytes (s .points) (s .corners) (s .begins)) (cornersAfter bytes (s .points) (s .corners) (s .begins)) (beginsAfter bytes (s .points) (s .corners) (s .begins)))
+    (tables (pointsAfter bytes (s .points) (s .corners) (s .begins))
+    (cornersAfter bytes (s .points) (s .corners) (s .begins))
+    (beginsAfter bytes (s .points) (s .corners) (s .begins)))
 
--- the walk's "vertex, height, moves"; the reader's "V, F and corners, or a number and byte offset"
+-- the walk's "vertex, height, moves"
 abbrev arrived : ℕ → ℤ → ℕ → Walked
-arrived vertex height moves = record { answer = accepted 0 0 0; vertex = vertex; height = height; moves = moves }
-
-abbrev filled : ℕ → ℕ → ℕ → Reading
-filled v f c = record { number = 0; first = v; second = f; third = c }
-
-abbrev unread : ℕ → ℕ → Reading
-unread number offset = record { number = number; first = offset; second = 0; third = 0 }
+arrived vertex height moves = record { answer = passed; vertex = vertex; height = height; moves = moves }
 
 -- ---- the solids, outlines and tapes
 
@@ -125,7 +126,8 @@ with-last last = tables (T .points) (three ++ last) (T .begins)
 -- case I's
 abbrev star : Drawn
 star = tables
-    (xyz (pos 4) (pos 0) (pos 0) ++ xyz (minus 3) (pos 2) (pos 0) ++ xyz (pos 1) (minus 4) (pos 0) ++ xyz (pos 1) (pos 4) (pos 0) ++ xyz (minus 3) (minus 2) (pos 0)
+    (xyz (pos 4) (pos 0) (pos 0) ++ xyz (minus 3) (pos 2) (pos 0) ++ xyz (pos 1) (minus 4) (pos 0)
+    ++ xyz (pos 1) (pos 4) (pos 0) ++ xyz (minus 3) (minus 2) (pos 0)
     ++ xyz (pos 0) (pos 0) (pos 3) ++ xyz (pos 0) (pos 0) (minus 3))
     (facet 0 1 5 ++ facet 1 2 5 ++ facet 2 3 5 ++ facet 3 4 5 ++ facet 4 0 5 ++ facet 1 0 6 ++ facet 2 1 6 ++ facet 3 2 6 ++ facet 4 3 6 ++ facet 0 4 6)
     (0 ∷ 3 ∷ 6 ∷ 9 ∷ 12 ∷ 15 ∷ 18 ∷ 21 ∷ 24 ∷ 27 ∷ 30 ∷ [])
@@ -133,8 +135,10 @@ star = tables
 -- case P's tape: 61 bytes, its last record 00 04 00 04 00
 abbrev tapeT : List ℕ
 tapeT =
-    (1 ∷ 0 ∷ 0 ∷ 0 ∷ 0 ∷ 0 ∷ 0 ∷ []) ++ (1 ∷ 1 ∷ 0 ∷ 0 ∷ 0 ∷ 0 ∷ 0 ∷ []) ++ (1 ∷ 0 ∷ 0 ∷ 1 ∷ 0 ∷ 0 ∷ 0 ∷ []) ++ (1 ∷ 0 ∷ 0 ∷ 0 ∷ 0 ∷ 1 ∷ 0 ∷ [])
-    ++ (3 ∷ 0 ∷ 0 ∷ 2 ∷ 0 ∷ 1 ∷ 0 ∷ []) ++ (3 ∷ 0 ∷ 0 ∷ 1 ∷ 0 ∷ 3 ∷ 0 ∷ []) ++ (3 ∷ 0 ∷ 0 ∷ 3 ∷ 0 ∷ 2 ∷ 0 ∷ []) ++ (3 ∷ 1 ∷ 0 ∷ 2 ∷ 0 ∷ 3 ∷ 0 ∷ [])
+    (1 ∷ 0 ∷ 0 ∷ 0 ∷ 0 ∷ 0 ∷ 0 ∷ []) ++ (1 ∷ 1 ∷ 0 ∷ 0 ∷ 0 ∷ 0 ∷ 0 ∷ [])
+    ++ (1 ∷ 0 ∷ 0 ∷ 1 ∷ 0 ∷ 0 ∷ 0 ∷ []) ++ (1 ∷ 0 ∷ 0 ∷ 0 ∷ 0 ∷ 1 ∷ 0 ∷ [])
+    ++ (3 ∷ 0 ∷ 0 ∷ 2 ∷ 0 ∷ 1 ∷ 0 ∷ []) ++ (3 ∷ 0 ∷ 0 ∷ 1 ∷ 0 ∷ 3 ∷ 0 ∷ [])
+    ++ (3 ∷ 0 ∷ 0 ∷ 3 ∷ 0 ∷ 2 ∷ 0 ∷ []) ++ (3 ∷ 1 ∷ 0 ∷ 2 ∷ 0 ∷ 3 ∷ 0 ∷ [])
     ++ (0 ∷ 4 ∷ 0 ∷ 4 ∷ 0 ∷ [])
 
 -- lent tables full of nines, just large enough for any tape; and the same once T is read into them
@@ -160,34 +164,40 @@ row letter question reply = record { letter = letter; question = question; reply
 abbrev pub table : List Case
 table =
     row A (judge T) (ofJudge (accepted 4 6 4))
-    ∷ row B (judge without-last) (ofJudge (refused 1 0 0))
+    ∷ row B (judge without-last) (ofJudge (fault 1 0 0))
     ∷ row C (judge (with-points (vertices (pos 8191) (pos 1)))) (ofJudge (accepted 4 6 4))
-    ∷ row C (judge (with-points (vertices (pos 8192) (pos 1)))) (ofJudge (refused 2 1 0))
-    ∷ row D (judge (with-last (facet 1 2 4))) (ofJudge (refused 3 3 2))
-    ∷ row E (judge (with-last (facet 1 2 2))) (ofJudge (refused 4 3 2))
-    ∷ row F (judge (with-points (T .points ++ xyz (pos 1) (pos 1) (pos 1)))) (ofJudge (refused 5 4 0))
-    ∷ row G (judge (with-last (facet 1 3 2))) (ofJudge (refused 6 0 1))
-    ∷ row H (judge (with-points (vertices (pos 1) (pos 0)))) (ofJudge (refused 9 1 2))
-    ∷ row H (judge (with-points (vertices (pos 1) (minus 1)))) (ofJudge (refused 11 0 0))
-    ∷ row I (judge star) (ofJudge (refused 12 0 3))
+    ∷ row C (judge (with-points (vertices (pos 8192) (pos 1)))) (ofJudge (fault 2 1 0))
+    ∷ row D (judge (with-last (facet 1 2 4))) (ofJudge (fault 3 3 2))
+    ∷ row E (judge (with-last (facet 1 2 2))) (ofJudge (fault 4 3 2))
+    ∷ row F (judge (with-points (T .points ++ xyz (pos 1) (pos 1) (pos 1)))) (ofJudge (fault 5 4 0))
+    ∷ row G (judge (with-last (facet 1 3 2))) (ofJudge (fault 6 0 1))
+    ∷ row H (judge (with-points (vertices (pos 1) (pos 0)))) (ofJudge (fault 9 1 2))
+    ∷ row H (judge (with-points (vertices (pos 1) (minus 1)))) (ofJudge (fault 11 0 0))
+    ∷ row I (judge star) (ofJudge (fault 12 0 3))
     ∷ row J (walk T (direction (pos 1) (pos 1) (pos 1)) 0 (replicate 4 9)) (ofWalk (arrived 1 (pos 1) 1) (0 ∷ 1 ∷ 9 ∷ 9 ∷ []))
     ∷ row K (walk T (direction (pos 0) (pos 0) (pos 0)) 3 (replicate 4 9)) (ofWalk (arrived 3 (pos 0) 0) (3 ∷ 9 ∷ 9 ∷ 9 ∷ []))
     ∷ row L (walk T (direction (pos 0) (pos 0) (minus 1)) 3 (replicate 4 9)) (ofWalk (arrived 0 (pos 0) 1) (3 ∷ 0 ∷ 9 ∷ 9 ∷ []))
     ∷ row M (outline (xy (pos 0) (pos 0) ++ xy (pos 2) (pos 0) ++ xy (pos 2) (pos 2) ++ xy (pos 0) (pos 2))) (ofOutline (verdict 0 4))
     ∷ row N (outline (xy (pos 0) (pos 0) ++ xy (pos 1) (pos 0) ++ xy (pos 2) (pos 0) ++ xy (pos 2) (pos 2) ++ xy (pos 0) (pos 2))) (ofOutline (verdict 25 1))
-    ∷ row O (outline (xy (pos 4) (pos 0) ++ xy (minus 3) (pos 2) ++ xy (pos 1) (minus 4) ++ xy (pos 1) (pos 4) ++ xy (minus 3) (minus 2))) (ofOutline (verdict 26 3))
-    ∷ row P (write T (replicate 64 9)) (ofWriter (accepted 61 0 0) (tapeT ++ (9 ∷ 9 ∷ 9 ∷ [])))
-    ∷ row P (read tapeT lent) (ofReader (filled 4 4 12) lent-T)
-    ∷ row P (read (take 60 tapeT) lent) (ofReader (unread 20 56) lent)
+    ∷ row O (outline (xy (pos 4) (pos 0) ++ xy (minus 3) (pos 2) ++ xy (pos 1) (minus 4) ++ xy (pos 1) (pos 4) ++ xy (minus 3) (minus 2)))
+    (ofOutline (verdict 26 3))
+    ∷ row P (write T (replicate 64 9)) (ofWriter (ofLength 61) (tapeT ++ (9 ∷ 9 ∷ 9 ∷ [])))
+    ∷ row P (read tapeT lent) (ofReader (Read 4 4 12) lent-T)
+    ∷ row P (read (take 60 tapeT) lent) (ofReader (Refused 20 56) lent)
     ∷ []
 
 -- the sheet's letters in its order: C and H have two rows, P three
-pub letters : map (λ r. r .letter) table ≡ A ∷ B ∷ C ∷ C ∷ D ∷ E ∷ F ∷ G ∷ H ∷ H ∷ I ∷ J ∷ K ∷ L ∷ M ∷ N ∷ O ∷ P ∷ P ∷ P ∷ []
+pub letters : map (λ r. r .letter) table
+    ≡ A ∷ B ∷ C ∷ C ∷ D ∷ E ∷ F ∷ G ∷ H ∷ H ∷ I ∷ J ∷ K ∷ L ∷ M ∷ N ∷ O ∷ P ∷ P ∷ P ∷ []
 letters = refl
 
 -- "Cases A to P stand together as a single table with a single proved statement"
 pub all-sixteen : map (λ r. answer (r .question)) table ≡ map (λ r. r .reply) table
-unfolding judged isSize isOut coordOf firstBelow countBelow lastBelow iterate tab rounds homeOf nextOf acrossOf roundOf flooded isBent isTurn isReflex isOutside _-_ _·_ det walked trailAfter isSteep step after stood judgedOutline judgedTurns few coordOf² before after² isGreater det² joined packed bytesOf bits over readTape run lookAt numberAt signed place
+unfolding judged firstOf isSize isOut coordOf firstBelow countBelow lastBelow
+    iterate tab rounds homeOf nextOf acrossOf roundOf flooded isBent isTurn
+    isReflex isOutside _-_ _·_ det walked trailAfter isSteep step after stood
+    judgedOutline judgedTurns few coordOf² before after² isGreater det² joined packed
+    bytesOf bits over readTape run lookAt numberAt signed place
 all-sixteen = refl
 
 alike : (f g : Case → Reply) {r : Case} {rows : List Case} → map f rows ≡ map g rows → List·Memᴰ r rows → f r ≡ g r

@@ -44,7 +44,9 @@ module _ {P F : Type 0} {M : Surface P F} (N : Near M) where
     advance {g} {p} {r} e o s away =
         let t = wedge M e o in
         not-le (λ k. clash high (cone-step (at r - at v) (at p - at v) (at u - at v) x d
-        (below-< t (at u - at v) (under M (ends e) (neighbour-in N (ends e) into) away)) (below-≤ t x (x-below g (ends e))) s k (low-in into) (low-in e) (low g r o)))
+        (below-< t (at u - at v) (under M (ends e) (neighbour-in N (ends e) into) away))
+        (below-≤ t x (x-below g (ends e)))
+        s k (low-in into) (low-in e) (low g r o)))
 
     leave : {g h : F} {r : P} → g ≡ f → Edge g v r → Edge h r v → Swept h
     leave {g} {h} {r} s o e = first (subst (λ z. Edge h z v) (one-next (subst (λ k. Edge k v r) s o) out) e)

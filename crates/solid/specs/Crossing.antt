@@ -11,7 +11,8 @@ use Rattle.space.specs.Vectors.{_·_, det, swap-≤}
 use Rattle.solid.specs.Left.{Left, upright}
 
 -- the wedge from a to b is crossed at y = (d · b) a - (d · a) b, which is d × n but for a positive factor; here is m · y
-crossing : (n m a b d : Vec ℤ) → n · a ≡ pos 0 → n · b ≡ pos 0 → n · n *ℤ (d · b *ℤ (m · a) -ℤ d · a *ℤ (m · b)) ≡ det n a b *ℤ det n m d
+crossing : (n m a b d : Vec ℤ) → n · a ≡ pos 0 → n · b ≡ pos 0
+    → n · n *ℤ (d · b *ℤ (m · a) -ℤ d · a *ℤ (m · b)) ≡ det n a b *ℤ det n m d
 unfolding det _·_
 crossing = prove³ 5 (λ n m a b d. let o = num (pos 0) in
     dot exprs n a ≃ o ⇒ λ h. dot exprs n b ≃ o ⇒ λ k.
@@ -21,11 +22,14 @@ crossing = prove³ 5 (λ n m a b d. let o = num (pos 0) in
 module _ {u w x y : ℤ} (h : pos 0 <ℤ u) (i : w ≤ℤ pos 0) (j : y ≤ℤ pos 0) where
   slope-≤ : x ≤ℤ pos 0 → (u *ℤ x -ℤ w *ℤ y) ≤ℤ pos 0
   slope-≤ = prove 4 (λ u w x y. let o = num (pos 0) in
-      o ≺ u ⇒ λ h. w ≼ o ⇒ λ i. y ≼ o ⇒ λ j. x ≼ o ⇒ λ k. u ⊗ x ⊖ w ⊗ y ≼ o since hyp h ⊠ hyp k ⊞ hyp k ⊞ hyp i ⊠ hyp j) tt u w x y h i j
+      o ≺ u ⇒ λ h. w ≼ o ⇒ λ i. y ≼ o ⇒ λ j. x ≼ o ⇒ λ k. u ⊗ x ⊖ w ⊗ y ≼ o since hyp h ⊠ hyp k ⊞ hyp k ⊞ hyp i ⊠ hyp j)
+      tt u w x y h i j
 
   slope-< : x <ℤ pos 0 → (u *ℤ x -ℤ w *ℤ y) <ℤ pos 0
   slope-< = prove 4 (λ u w x y. let o = num (pos 0) in
-      o ≺ u ⇒ λ h. w ≼ o ⇒ λ i. y ≼ o ⇒ λ j. x ≺ o ⇒ λ k. u ⊗ x ⊖ w ⊗ y ≺ o since hyp h ⊠ hyp k ⊞ hyp h ⊞ hyp k ⊞ hyp i ⊠ hyp j) tt u w x y h i j
+      o ≺ u ⇒ λ h. w ≼ o ⇒ λ i. y ≼ o ⇒ λ j. x ≺ o ⇒ λ k.
+      u ⊗ x ⊖ w ⊗ y ≺ o since hyp h ⊠ hyp k ⊞ hyp h ⊞ hyp k ⊞ hyp i ⊠ hyp j)
+      tt u w x y h i j
 
 -- a second wedge, with the normal m, is crossed at y′: m · y and n · y′ have opposite signs, so a′ is not below the plane of the first
 pub one-crossing : {n m a b a′ b′ : Vec ℤ} → Left n a b → Left m a′ b′ → (d : Vec ℤ)

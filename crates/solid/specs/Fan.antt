@@ -57,4 +57,6 @@ module _ {P F : Type 0} {M : Surface P F} (N : Near M) (d : Vec ℤ) (v : P) whe
         join (go (m .path) (m .corner) (subst (λ f. Corner f (n .z)) (one-fall N k h) (n .corner)) (end (n .path))) (reverse (n .path))
 
     pub fan : Path Corner Up x y
-    fan = meet (walk (round M fv gv) (record { z = x; corner = fx; path = start x-up })) (walk (round M gv fv) (record { z = y; corner = gy; path = start y-up }))
+    fan = meet
+        (walk (round M fv gv) (record { z = x; corner = fx; path = start x-up }))
+        (walk (round M gv fv) (record { z = y; corner = gy; path = start y-up }))

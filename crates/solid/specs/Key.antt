@@ -27,13 +27,15 @@ module _ {b : ℕ} {l : ℤ} (s : l within b) (h : ℤ) where
   unfolding shift
   carry-down k = not-le (λ p. never (prove 3 (λ c l h. let o = num (pos 0) in
       neg c ≼ l ⇒ λ i. l ≼ c ⇒ λ j. h ≺ o ⇒ λ k. o ≼ shiftᵒ exprs (num (pos 1)) c h l ⇒ λ p.
-      num (pos 1) ≼ o since hyp k ⊠ (hyp i ⊞ hyp j) ⊞ hyp k ⊞ hyp k ⊞ hyp j ⊞ hyp j ⊞ hyp p ⊞ hyp p) tt (pos b) l h (within-low s) (within-high s) k p))
+      num (pos 1) ≼ o since hyp k ⊠ (hyp i ⊞ hyp j) ⊞ hyp k ⊞ hyp k ⊞ hyp j ⊞ hyp j ⊞ hyp p ⊞ hyp p)
+      tt (pos b) l h (within-low s) (within-high s) k p))
 
   carry-up : pos 0 <ℤ h → pos 0 <ℤ shift (pos b) h l
   unfolding shift
   carry-up k = not-le (λ p. never (prove 3 (λ c l h. let o = num (pos 0) in
       neg c ≼ l ⇒ λ i. l ≼ c ⇒ λ j. o ≺ h ⇒ λ k. shiftᵒ exprs (num (pos 1)) c h l ≼ o ⇒ λ p.
-      num (pos 1) ≼ o since hyp k ⊠ (hyp i ⊞ hyp j) ⊞ hyp k ⊞ hyp k ⊞ hyp i ⊞ hyp i ⊞ hyp p ⊞ hyp p) tt (pos b) l h (within-low s) (within-high s) k p))
+      num (pos 1) ≼ o since hyp k ⊠ (hyp i ⊞ hyp j) ⊞ hyp k ⊞ hyp k ⊞ hyp i ⊞ hyp i ⊞ hyp p ⊞ hyp p)
+      tt (pos b) l h (within-low s) (within-high s) k p))
 
   head-0 : shift (pos b) h l ≡ pos 0 → h ≡ pos 0
   head-0 e = ≤-antisym h (pos 0) (not-lt (λ k. clash (carry-up k) (eq→le e))) (not-lt (λ k. clash (carry-down k) (eq→le (sym e))))
@@ -62,7 +64,8 @@ digits c n r = solve 7 (λ c nx ny nz x y z.
     let n = vec nx ny nz in
     let r = vec x y z in
     let shiftᵉ = shiftᵒ exprs one c in
-    dot exprs (keyᵒ exprs (baseᵒ exprs one c) one n) r ≐ shiftᵉ (shiftᵉ (shiftᵉ (dot exprs n r) x) y) z) tt c (n .x) (n .y) (n .z) (r .x) (r .y) (r .z)
+    dot exprs (keyᵒ exprs (baseᵒ exprs one c) one n) r ≐ shiftᵉ (shiftᵉ (shiftᵉ (dot exprs n r) x) y) z)
+    tt c (n .x) (n .y) (n .z) (r .x) (r .y) (r .z)
 
 module _ {b : ℕ} {r : Vec ℤ} (B : Box b r) (n : Vec ℤ) where
   pub key-higher : pos 0 <ℤ n · r → pos 0 <ℤ key (pos b) n · r

@@ -43,7 +43,8 @@ module _ {P F : Type 0} {M : Surface P F} (N : Near M) {d : Vec ℤ} (G : Generi
       beside : {g : F} {z : P} → d · at y ≡ t → Corner g y → Corner g z → Path Corner (Above t) x z → Bent x y
 
     -- v, at the level, is bypassed
-    bypass : {f g : F} {x y v : P} → d · at v ≡ t → Corner f v → Corner f x → Above t x → Corner g v → Corner g y → Above t y → Path Corner (Above t) x y
+    bypass : {f g : F} {x y v : P} → d · at v ≡ t → Corner f v → Corner f x → Above t x → Corner g v → Corner g y
+        → Above t y → Path Corner (Above t) x y
     bypass {v} s fv fx x-up gv gy y-up = map (λ u h. rw s at h) (fan N d v fv fx (rw s x-up) gv gy (rw s y-up))
 
     further : {g : F} {x y z : P} → Bent x y → Corner g y → Corner g z → Over t z → (d · at z ≤ℤ t) ⊎ Above t z → Bent x z
@@ -62,7 +63,8 @@ module _ {P F : Type 0} {M : Surface P F} (N : Near M) {d : Vec ℤ} (G : Generi
 
   -- ---- all levels up to the lower end
 
-  raise-by : {x y : P} (n : ℕ) (t : ℤ) → Path Corner (Over t) x y → Over (t +ℤ pos n) x → Over (t +ℤ pos n) y → Path Corner (Over (t +ℤ pos n)) x y
+  raise-by : {x y : P} (n : ℕ) (t : ℤ) → Path Corner (Over t) x y → Over (t +ℤ pos n) x → Over (t +ℤ pos n) y
+      → Path Corner (Over (t +ℤ pos n)) x y
   raise-by zero t p hx hy = rw +ℤ-idr p
   raise-by {x} {y} (suc n) t p hx hy =
       let kx = drop-one t (d · at x) n hx in

@@ -37,7 +37,8 @@ flatᵉ a b c d = det³ exprs (sub exprs b a) (sub exprs c a) (sub exprs d a) �
 
 own-plane : (a b c : Vec ℤ) → (det (b - a) (c - a) (a - a) ≡ pos 0) × (det (b - a) (c - a) (b - a) ≡ pos 0) × (det (b - a) (c - a) (c - a) ≡ pos 0)
 unfolding flatᵉ det _-_
-own-plane a b c = (solve³ 3 (λ a b c. flatᵉ a b c a) tt a b c, solve³ 3 (λ a b c. flatᵉ a b c b) tt a b c, solve³ 3 (λ a b c. flatᵉ a b c c) tt a b c)
+own-plane a b c =
+    (solve³ 3 (λ a b c. flatᵉ a b c a) tt a b c, solve³ 3 (λ a b c. flatᵉ a b c b) tt a b c, solve³ 3 (λ a b c. flatᵉ a b c c) tt a b c)
 
 module _ (t : Tables) where
   open Tables t using (vertices, facets, size, corner, at)
@@ -139,7 +140,8 @@ module _ (t : Tables) where
       near R N = record {
         reflex = λ e r c ca cb. rw (volume-is, ← (c .names)) (R .reflex (e .place) (r .place) (r .from ∙ sym (e .to)) (r .to ∙ sym (e .from)) (c .place)
             (λ s. ca (sym (c .names) ∙ s ∙ e .from)) (λ s. cb (sym (c .names) ∙ s ∙ e .to)));
-        neighbour = λ c e out. rw (volume-is, ← (e .to)) (N .neighbour (c .place) (e .place) (e .from ∙ sym (c .names)) (λ k. out (subst (Corner t _) (e .to) k)));
+        neighbour = λ c e out. rw (volume-is, ← (e .to))
+            (N .neighbour (c .place) (e .place) (e .from ∙ sym (c .names)) (λ k. out (subst (Corner t _) (e .to) k)));
       }
 
       pub whole : Whole surface

@@ -10,7 +10,8 @@ use Rattle.space.specs.Vectors.{_-_, _·_, det}
 use Rattle.solid.specs.Reach.{Around, here, hop, Ring, Linked, self, link}
 use Rattle.solid.specs.Box.{Box}
 use Rattle.solid.specs.Decide.{run, via, same?, less?, below?, ¬?, _→?_, _×?_, _⊎?_, all?, some?}
-use Rattle.solid.specs.Tables.{Tables, Place, Corner, Edge, Sized, Ranged, Closed, Flat, Outside, Convex, Reflex, Neighbours, after, next, normal, volume}
+use Rattle.solid.specs.Tables.{Tables, Place, Corner, Edge, Sized, Ranged, Closed, Flat}
+use Rattle.solid.specs.Tables.{Outside, Convex, Reflex, Neighbours, after, next, normal, volume}
 use Rattle.solid.specs.Theorems.{no-reflex, neighbours}
 
 -- ---- "vertices (0,0,0), (1,0,0), (0,1,0), (0,0,1); facets (0,2,1), (0,1,3), (0,3,2), (1,2,3)"
@@ -83,7 +84,8 @@ closed = record {
   no-repeat = λ {f} {i} {j} p q. run (places? (λ f i. all? 3 (λ j. same? (corner f i) (corner f j) →? same? i j))) tt f i p j (q .position);
   used = λ w h. let (f, l, c) = run (all? 4 (λ w. some? 4 (λ f. corner? f w))) tt w h in (f, c);
   once = λ {f} {i} {g} {j} p q.
-      run (places? (λ f i. places? (λ g j. same? (corner f i) (corner g j) →? same? (next tetra f i) (next tetra g j) →? same? f g ×? same? i j))) tt f i p g j q;
+      run (places? (λ f i. places? (λ g j. same? (corner f i) (corner g j) →? same? (next tetra f i) (next tetra g j) →? same? f g ×? same? i j)))
+      tt f i p g j q;
   reverse = λ {f} {i} p. let (g, l, e) = run (places? (λ f i. some? 4 (λ g. edge? g (next tetra f i) (corner f i)))) tt f i p in (g, e);
   ring = ring;
   reached = λ f h. linked (run (all? 4 (λ f. same? 0 f ⊎? some? 4 (λ v. over? v 0 f))) tt f h);

@@ -37,7 +37,8 @@ cramer = solve³ 5 (λ p q r x d. det³ exprs p q r ⊗ dot exprs d x
 
 -- ---- A3, four vectors
 
-pub four-vectors : (a b c e l : Vec ℤ) → det b c e *ℤ (l · a) -ℤ det a c e *ℤ (l · b) +ℤ det a b e *ℤ (l · c) -ℤ det a b c *ℤ (l · e) ≡ pos 0
+pub four-vectors : (a b c e l : Vec ℤ)
+    → det b c e *ℤ (l · a) -ℤ det a c e *ℤ (l · b) +ℤ det a b e *ℤ (l · c) -ℤ det a b c *ℤ (l · e) ≡ pos 0
 unfolding det _·_
 four-vectors = solve³ 5 (λ a b c e l. det³ exprs b c e ⊗ dot exprs l a ⊖ det³ exprs a c e ⊗ dot exprs l b
     ⊕ det³ exprs a b e ⊗ dot exprs l c ⊖ det³ exprs a b c ⊗ dot exprs l e ≐ num (pos 0)) tt

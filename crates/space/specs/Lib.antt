@@ -1,4 +1,4 @@
--- Exact geometry on whole numbers: the determinant of three rows of three, cross products, and numbers against 0.
+-- Exact geometry on whole numbers: vectors, determinants, their bounds, and numbers against 0.
 pub mod Vec
 pub mod Vectors
 pub mod Algebra

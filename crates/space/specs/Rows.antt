@@ -1,21 +1,29 @@
 -- Rows of three whole numbers, and the determinant of three rows. Assumes nothing.
-use Prim.Native.Nat.{ℕ, zero, suc, zero-le}
+use Prim.Native.Nat.{ℕ, zero, suc, _+_, _*_, zero-le}
 use mathlib.Core.Path.{_≡_}
 use mathlib.Core.List.{List, [], _∷_}
 use native.Mathlib.Omega.{arith}
 use lib.IntN.{ℤ, pos}
 use lib.ListN.{getD}
-use Rattle.whole.specs.Bounds.{_within_, within-≤}
+use Rattle.whole.specs.Bounds.{_within_, Exact, within-≤}
 use Rattle.whole.specs.Formula.{ints}
 use Rattle.space.specs.Vec.{Vec, vec, cross}
 use Rattle.space.specs.Vectors.{det}
+use Rattle.space.specs.Plane as plane
 
--- a difference of two coordinates is within 2 · 8,191, and a part of a normal within twice the square of that
+-- the bounds of a number of a step, of a normal, of the cross product of a normal and a step, and of the product of that with a step:
+-- 2 · 8,191, twice its square, and what follows from these two
 abbrev pub longest : ℕ
 longest = 16382
 
 abbrev pub widest : ℕ
 widest = 536739848
+
+abbrev pub broadest : ℕ
+broadest = widest * longest + widest * longest
+
+abbrev pub largest : ℕ
+largest = broadest * longest + broadest * longest + broadest * longest
 
 abbrev pub Difference : ℤ → Type 0
 Difference z = z within longest
@@ -26,6 +34,16 @@ Minor z = z within widest
 -- each number of a row is within N
 pub record Row (N : ℕ) (r : List ℤ) : Type 0 where
   pub at : (j : ℕ) → getD r j (pos 0) within N
+
+-- what a function that computes the row z promises of its result r
+pub record ExactRow (N : ℕ) (z r : List ℤ) : Type 0 where
+  pub is : r ≡ z
+  pub small : Row N r
+
+-- the determinant r of a b and c d, smaller where a b is of a step
+pub record Minored (a b c d r : ℤ) : Type 0 where
+  pub exact : Exact broadest (plane.det (plane.vec a b) (plane.vec c d)) r
+  pub small : Difference a → Difference b → Minor r
 
 -- the first row may be a normal, the other two are steps
 pub record Rows (m : List (List ℤ)) : Type 0 where
@@ -59,3 +77,6 @@ row-of {N} {x} {y} {z} p q r = record { at = each }
 -- a row of steps may stand in the first place
 pub row-wide : {r : List ℤ} → Row longest r → Row widest r
 row-wide h = record { at = λ j. within-≤ (h .at j) (omega arith) }
+
+pub exact-row : {N : ℕ} {a b c x y z : ℤ} → Exact N a x → Exact N b y → Exact N c z → ExactRow N (a ∷ b ∷ c ∷ []) (x ∷ y ∷ z ∷ [])
+exact-row p q r = record { is = λ i. p .is i ∷ q .is i ∷ r .is i ∷ []; small = row-of (p .small) (q .small) (r .small) }

@@ -25,7 +25,8 @@ norm-pos : (n m : Vec ℤ) → pos 0 <ℤ dot ints n m → pos 0 <ℤ dot ints n
 norm-pos n m h =
     not-le (λ k. never (prove³ 2 (λ n m. let o = num (pos 0) in let c = cross exprs n m in
     o ≺ dot exprs n m ⇒ λ h. dot exprs n n ≼ o ⇒ λ k.
-    num (pos 1) ≼ o since hyp h ⊠ hyp h ⊞ hyp h ⊞ hyp h ⊞ hyp k ⊠ (sq (m .x) ⊞ sq (m .y) ⊞ sq (m .z)) ⊞ sq (c .x) ⊞ sq (c .y) ⊞ sq (c .z)) tt n m h k))
+    num (pos 1) ≼ o since hyp h ⊠ hyp h ⊞ hyp h ⊞ hyp h ⊞ hyp k ⊠ (sq (m .x) ⊞ sq (m .y) ⊞ sq (m .z)) ⊞ sq (c .x) ⊞ sq (c .y) ⊞ sq (c .z))
+    tt n m h k))
 
 pub normal-pos : (n a b : Vec ℤ) → pos 0 <ℤ det n a b → pos 0 <ℤ n · n
 unfolding det _·_
@@ -71,7 +72,8 @@ cone-step a b e x d h i j k de db da =
     not-lt (λ p. never (prove³ 5 (λ a b e x d. let o = num (pos 0) in
     det³ exprs a b e ≺ o ⇒ λ h. det³ exprs a b x ≼ o ⇒ λ i. o ≼ det³ exprs e b x ⇒ λ j. det³ exprs e a x ≼ o ⇒ λ k.
     dot exprs d e ≼ o ⇒ λ de. dot exprs d b ≼ o ⇒ λ db. dot exprs d a ≼ o ⇒ λ da. o ≺ dot exprs d x ⇒ λ p.
-    num (pos 1) ≼ o since hyp h ⊠ hyp p ⊞ hyp h ⊞ hyp p ⊞ hyp i ⊠ hyp de ⊞ hyp k ⊠ hyp db ⊞ hyp j ⊠ hyp da) tt a b e x d h i j k de db da p))
+    num (pos 1) ≼ o since hyp h ⊠ hyp p ⊞ hyp h ⊞ hyp p ⊞ hyp i ⊠ hyp de ⊞ hyp k ⊠ hyp db ⊞ hyp j ⊠ hyp da)
+    tt a b e x d h i j k de db da p))
 
 -- ---- heights
 

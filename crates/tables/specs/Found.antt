@@ -6,7 +6,7 @@ use native.Mathlib.Nat.{le-refl}
 use native.Mathlib.Omega.{arith}
 use lib.Dec.{ltb}
 use borrow.Author.Tests.{lt-ltb, le-ltb, ltb-true, ltb-false}
-use Rattle.whole.specs.First.{firstBelow, anyBelow, pickBelow, None, none-more, none-all, never, first-holds, found, hit, miss, before-first, any-none, any-is}
+use Rattle.whole.specs.First.{firstBelow, anyBelow, pickBelow, None, none-0, none-more, none-all, never, first-holds, found, hit, miss, before-first, any-none, any-is}
 use Rattle.tables.specs.declared.Found.{Found}
 use Rattle.tables.specs.declared.Found.the-variants.{At, Nothing}
 
@@ -132,3 +132,22 @@ module _ (n : ℕ) (sizes : ℕ → ℕ) (test : ℕ → ℕ → Bool) {f p q : 
   facet-miss l =
       let h : somewhere sizes test f ≡ false = le-ltb _ _ (rw (all, size) at l) in
       none-more none h
+
+-- the test holds nowhere in the facets before f, where facet f has sizes f positions: what such a loop carries
+pub record Free (n : ℕ) (sizes : ℕ → ℕ) (test : ℕ → ℕ → Bool) (f : ℕ) : Type 0 where
+  pub upto : f ≤ n
+  pub none : None (somewhere sizes test) f
+
+pub free-0 : (n : ℕ) (sizes : ℕ → ℕ) (test : ℕ → ℕ → Bool) → Free n sizes test 0
+free-0 n sizes test = record { upto = omega arith; none = none-0 (somewhere sizes test) }
+
+module _ {n : ℕ} {sizes : ℕ → ℕ} {test : ℕ → ℕ → Bool} {f : ℕ} (free : Free n sizes test f) where
+  module _ {p : ℕ} (l : f < n) (is : p ≡ firstBelow (test f) (sizes f)) where
+    pub free-hit : p < sizes f → At f p ≡ firstPlace n sizes test
+    free-hit h = facet-hit n sizes test (free .none) is refl h l
+
+    pub free-more : sizes f ≤ p → Free n sizes test (f + 1)
+    free-more h = record { upto = omega arith; none = facet-miss n sizes test (free .none) is refl h }
+
+  pub free-all : n ≤ f → Nothing ≡ firstPlace n sizes test
+  free-all h = miss (within sizes test) Nothing (free .none) (free .upto) h

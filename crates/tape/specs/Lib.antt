@@ -4,4 +4,5 @@ pub mod Records
 pub mod Tape
 pub mod Reading
 pub mod Look
+pub mod Turns
 pub mod Whole

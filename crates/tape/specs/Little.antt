@@ -42,6 +42,11 @@ signedAt s i = signed (unsignedAt s i)
 pub record Bytes (s : List ℕ) : Type 0 where
   pub small : (i : ℕ) → getD s i 0 < 256
 
+-- what is asked of a signed number that is stored
+pub record PutsSigned (buffer : List ℕ) (i : ℕ) (x : ℤ) : Type 0 where
+  pub room : i + 1 < length buffer
+  pub fits : SFits w16 x
+
 pub length-bytes : (k n : ℕ) → length (bytesOf k n) ≡ k
 unfolding bytesOf
 length-bytes zero n = refl
@@ -61,7 +66,8 @@ unfolding numberAt bytesOf
 number-bytes zero n post h = omega arith
 number-bytes (suc k) n post h =
     let l : n / 256 < 256 ^ k = div-lt-iff-lt-mul (lit< tt) .1 (rw pow-suc at h) in
-    let e : numberAt k (n % 256 ∷ (bytesOf k (n / 256) ++ post)) 1 ≡ n / 256 = number-after k (n % 256 ∷ []) (bytesOf k (n / 256) ++ post) 0 ∙ number-bytes k (n / 256) post l in
+    let rest = bytesOf k (n / 256) ++ post in
+    let e : numberAt k (n % 256 ∷ rest) 1 ≡ n / 256 = number-after k (n % 256 ∷ []) rest 0 ∙ number-bytes k (n / 256) post l in
     rw e (mod-add-div n 256)
 
 -- what was read is written
@@ -71,7 +77,16 @@ bytes-number b zero i h = refl
 bytes-number {s} b (suc k) i h =
     let l : i < length s = omega arith in
     let m = numberAt k s (i + 1) in
-    rw (add-mul-mod-self-left (getD s i 0) 256 m, mod-eq-of-lt (b .small i), add-mul-div-left (getD s i 0) m {y = 256} (lit< tt), div-eq-of-lt (b .small i), zero-add, drop-cons s i 0 l, bytes-number b k (i + 1) (omega arith), add-one)
+    rw (
+      add-mul-mod-self-left (getD s i 0) 256 m,
+      mod-eq-of-lt (b .small i),
+      add-mul-div-left (getD s i 0) m {y = 256} (lit< tt),
+      div-eq-of-lt (b .small i),
+      zero-add,
+      drop-cons s i 0 l,
+      bytes-number b k (i + 1) (omega arith),
+      add-one,
+    )
 
 -- of bytes, it fits
 pub number-fits : {s : List ℕ} → Bytes s → (i : ℕ) → Fits w16 (unsignedAt s i)

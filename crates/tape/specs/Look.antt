@@ -114,16 +114,37 @@ tells s at v f c e = rw e at (told s at v f c)
 pub is-point : {s : List ℕ} {at v f : ℕ} (c : ℕ) → IsPoint s at v f → lookAt s at v f c ≡ Point
 unfolding lookAt
 is-point {s} {at} {v} {f} c k =
-    rw (lt-leb (length s) at (omega (arith, k .whole)), k .kind, le-ltb 0 f (omega (arith, k .first)), lt-leb mostVertices v (k .few), le-ltb (length s - at) 7 (omega (arith, k .whole)))
+    rw (
+      lt-leb (length s) at (omega (arith, k .whole)),
+      k .kind,
+      le-ltb 0 f (omega (arith, k .first)),
+      lt-leb mostVertices v (k .few),
+      le-ltb (length s - at) 7 (omega (arith, k .whole)),
+    )
 
 pub is-facet : {s : List ℕ} {at f c n : ℕ} (v : ℕ) → IsFacet s at f c n → lookAt s at v f c ≡ Facet n
 unfolding lookAt
 is-facet {s} {at} {f} {c} {n} v k =
-    rw
-    (lt-leb (length s) at (omega (arith, k .whole)), k .kind, ne-eqb n 0 (λ e. omega (arith, k .least)), ne-eqb n 1 (λ e. omega (arith, k .least)), ne-eqb n 2 (λ e. omega (arith, k .least)), le-ltb mostSides n (k .most), lt-leb mostFacets f (k .few), le-ltb mostCorners (c + n) (k .short), le-ltb (length s - at) (1 + 2 * n) (omega (arith, k .whole)))
+    rw (
+      lt-leb (length s) at (omega (arith, k .whole)),
+      k .kind,
+      ne-eqb n 0 (λ e. omega (arith, k .least)),
+      ne-eqb n 1 (λ e. omega (arith, k .least)),
+      ne-eqb n 2 (λ e. omega (arith, k .least)),
+      le-ltb mostSides n (k .most),
+      lt-leb mostFacets f (k .few),
+      le-ltb mostCorners (c + n) (k .short),
+      le-ltb (length s - at) (1 + 2 * n) (omega (arith, k .whole)),
+    )
 
 pub is-end : {s : List ℕ} {at v f : ℕ} (c : ℕ) → IsEnd s at v f → lookAt s at v f c ≡ End
 unfolding lookAt
 is-end {s} {at} {v} {f} c k =
-    rw
-    (lt-leb (length s) at (omega (arith, k .last)), k .kind, le-ltb (length s - at) 5 (omega (arith, k .last)), eq-eqb (unsignedAt s (at + 1)) v (k .points), eq-eqb (unsignedAt s (at + 3)) f (k .facets), le-ltb 5 (length s - at) (omega (arith, k .last)))
+    rw (
+      lt-leb (length s) at (omega (arith, k .last)),
+      k .kind,
+      le-ltb (length s - at) 5 (omega (arith, k .last)),
+      eq-eqb (unsignedAt s (at + 1)) v (k .points),
+      eq-eqb (unsignedAt s (at + 3)) f (k .facets),
+      le-ltb 5 (length s - at) (omega (arith, k .last)),
+    )

@@ -12,8 +12,8 @@ use Rattle.tape.specs.Little.{unsignedAt, signedAt}
 use Rattle.whole.specs.Joined.{joined, listed}
 use Rattle.tape.specs.declared.Next.{Next}
 use Rattle.tape.specs.declared.Next.the-variants.{Point, Facet, End, Bad}
-use Rattle.tape.specs.declared.Outcome.{Outcome}
-use Rattle.tape.specs.declared.Outcome.the-variants.{Read, Refused}
+use Rattle.reading.specs.declared.Reading.{Reading}
+use Rattle.reading.specs.declared.Reading.the-variants.{Read, Refused}
 
 -- ---- what stands at an offset, where v points and f facets with c corners came before
 
@@ -56,19 +56,19 @@ lookAt s at v f c = cond (leb (length s) at) (Bad 20 at) (kindAt s at v f c (get
 -- ---- "the first bad record decides"
 
 -- what a record leaves to the records after it
-abbrev pub after : (ℕ → ℕ → ℕ → ℕ → Outcome) → ℕ → ℕ → ℕ → ℕ → Next → Outcome
+abbrev pub after : (ℕ → ℕ → ℕ → ℕ → Reading) → ℕ → ℕ → ℕ → ℕ → Next → Reading
 after rest at v f c Point = rest (at + 7) (v + 1) f c
 after rest at v f c (Facet n) = rest (at + (1 + 2 * n)) v (f + 1) (c + n)
 after rest at v f c End = Read v f c
 after rest at v f c (Bad number offset) = Refused number offset
 
 -- at most k records, each by the look of its layout; k is enough (`refused-number`)
-unfoldable pub run : (ℕ → ℕ → ℕ → ℕ → Next) → ℕ → ℕ → ℕ → ℕ → ℕ → Outcome
+unfoldable pub run : (ℕ → ℕ → ℕ → ℕ → Next) → ℕ → ℕ → ℕ → ℕ → ℕ → Reading
 run look zero at v f c = Refused 0 0
 run look (suc k) at v f c = after (run look k) at v f c (look at v f c)
 
 -- each record has a byte at least, and the last look is at the end of the input
-unfoldable pub readTape : List ℕ → Outcome
+unfoldable pub readTape : List ℕ → Reading
 readTape s = run (lookAt s) (suc (length s)) 0 0 0 0
 
 -- ---- the tables of a tape that is read

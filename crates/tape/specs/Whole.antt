@@ -13,7 +13,7 @@ use Rattle.tape.specs.Reading.{lookAt, after, run, readTape, place, face
 use Rattle.tape.specs.Look.{IsPoint, IsFacet, IsEnd, tells, is-point, is-facet, is-end}
 use Rattle.tape.specs.declared.Next.{Next}
 use Rattle.tape.specs.declared.Next.the-variants.{Point, Facet, End, Bad}
-use Rattle.tape.specs.declared.Outcome.the-variants.{Read, Refused}
+use Rattle.reading.specs.declared.Reading.the-variants.{Read, Refused}
 
 -- n facets' records stand from `at` on
 pub record Facets (s : List ℕ) (at n : ℕ) : Type 0 where

@@ -1,10 +1,11 @@
+// The tape: its little-endian numbers, and what stands at an offset.
 ghost use mathlib.Core.Path.{_≡_};
 ghost use Prim.Native.Nat.{_+_, _<_};
 ghost use lib.ListN.{length};
 ghost use lib.Seq.{sets};
 ghost use mir.Syntax.{w16};
 ghost use mir.Val.{SFits};
-ghost use Rattle.tape.specs.Little.{bytesOf, unsignedAt, signedAt, signed, bits};
+ghost use Rattle.tape.specs.Little.{bytesOf, unsignedAt, signedAt, signed, bits, PutsSigned};
 
 // What stands at an offset of a tape: a sound record, or a refusal's number and offset.
 pub enum Next {
@@ -12,12 +13,6 @@ pub enum Next {
     Facet(usize),
     End,
     Bad(u16, usize),
-}
-
-// What a tape is read as: V, F and corners, or a refusal's number and offset.
-pub enum Outcome {
-    Read(usize, usize, usize),
-    Refused(u16, usize),
 }
 
 // The unsigned number whose two bytes stand at i.
@@ -68,7 +63,7 @@ pub fn put_unsigned(buffer: &mut [u8], i: usize, n: u16)
 
 // The two bytes of a signed number, stored at i.
 pub fn put_signed(buffer: &mut [u8], i: usize, x: i32)
-    requires { ⌜ (i + 1 < length (now buffer)) × SFits w16 x ⌝ }
+    requires { ⌜ PutsSigned (now buffer) i x ⌝ }
     ensures { λ _. ⌜ now (buffer .exit) ≡ sets (now (buffer .entry)) i (bytesOf 2 (bits x)) ⌝ }
 {
     put_unsigned(buffer, i, bits_of(x));

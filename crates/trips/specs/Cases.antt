@@ -8,7 +8,7 @@ use Rattle.whole.specs.First.{firstBelow}
 use Rattle.points.specs.Range.{isOut}
 use Rattle.points.specs.Points.{coordOf}
 use Rattle.tables.specs.Size.{isSize}
-use Rattle.answers.specs.Answer.{accepted, refused}
+use Rattle.answers.specs.Answer.{accepted, fault, refused}
 use Rattle.tape.specs.Little.{bytesOf, numberAt, bits, signed}
 use Rattle.whole.specs.Joined.{joined}
 use Rattle.whole.specs.Over.{over}
@@ -16,8 +16,8 @@ use Rattle.tape.specs.Records.{packed}
 use Rattle.tape.specs.Tape.{tape}
 use Rattle.tape.specs.Reading.{lookAt, run, readTape, pointsAt, place, cornersAt, beginsAt}
 use Rattle.tape.specs.declared.Next.the-variants.{Bad}
-use Rattle.tape.specs.declared.Outcome.the-variants.{Read, Refused}
-use Rattle.reader.specs.Answer.{outcome}
+use Rattle.reading.specs.declared.Reading.the-variants.{Read, Refused}
+use Rattle.reader.specs.Answer.{reading}
 use Rattle.writer.specs.Answer.{written, bufferAfter}
 
 -- solid T
@@ -52,7 +52,7 @@ case-P = record { bytes = refl; sixty-one = refl; read = refl; read-points = ref
 
 -- ROOM before anything else; input used up; the end alone
 pub record Reads : Type 0 where
-  pub room : outcome [] [] [] [] ≡ Refused 16 0
+  pub room : reading [] [] [] [] ≡ Refused 16 0
   pub empty : readTape [] ≡ Refused 20 0
   pub no-records : readTape (0 ∷ 0 ∷ 0 ∷ 0 ∷ 0 ∷ []) ≡ Read 0 0 0
   -- KIND 2 and 13; ORDER; CUT of a body; COUNT by F, and by V; TAIL at the byte that follows
@@ -109,10 +109,10 @@ numbers = record { minus-one = refl; least = refl; most = refl; lower-first = re
 pub record Writes : Type 0 where
   pub space : written points corners begins (replicate 61 7) ≡ accepted 61 0 0
   pub bytes : bufferAfter points corners begins (replicate 61 7) ≡ bytesT
-  pub no-space : written points corners begins (replicate 60 7) ≡ refused 23 0 0
-  pub size : written points (take 9 corners) (take 4 begins) [] ≡ refused 1 0 0
-  pub range : written (pos 0 ∷ pos 0 ∷ pos 0 ∷ pos 8192 ∷ pos 0 ∷ pos 0 ∷ pos 0 ∷ pos 1 ∷ pos 0 ∷ pos 0 ∷ pos 0 ∷ pos 1 ∷ []) corners begins [] ≡ refused 2 1 0
-  pub index : written points (0 ∷ 2 ∷ 1 ∷ 0 ∷ 1 ∷ 3 ∷ 0 ∷ 3 ∷ 2 ∷ 1 ∷ 2 ∷ 4 ∷ []) begins [] ≡ refused 3 3 2
+  pub no-space : written points corners begins (replicate 60 7) ≡ refused 23
+  pub size : written points (take 9 corners) (take 4 begins) [] ≡ fault 1 0 0
+  pub range : written (pos 0 ∷ pos 0 ∷ pos 0 ∷ pos 8192 ∷ pos 0 ∷ pos 0 ∷ pos 0 ∷ pos 1 ∷ pos 0 ∷ pos 0 ∷ pos 0 ∷ pos 1 ∷ []) corners begins [] ≡ fault 2 1 0
+  pub index : written points (0 ∷ 2 ∷ 1 ∷ 0 ∷ 1 ∷ 3 ∷ 0 ∷ 3 ∷ 2 ∷ 1 ∷ 2 ∷ 4 ∷ []) begins [] ≡ fault 3 3 2
 
 pub writes : Writes
 unfolding isSize isOut coordOf firstBelow over joined packed bytesOf bits

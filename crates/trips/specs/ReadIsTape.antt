@@ -53,7 +53,8 @@ module _ {s : List ℕ} (b : Bytes s) where
       ∙ sym (rw d (take-add (2 * n) 2 (drop i s)))
 
   -- a whole record
-  framed-numbers : (at n : ℕ) {kind : ℕ} → getD s at 0 ≡ kind → at + (1 + 2 * n) ≤ length s → framed kind (numbersAt s (at + 1) n) ≡ take (1 + 2 * n) (drop at s)
+  framed-numbers : (at n : ℕ) {kind : ℕ} → getD s at 0 ≡ kind → at + (1 + 2 * n) ≤ length s
+      → framed kind (numbersAt s (at + 1) n) ≡ take (1 + 2 * n) (drop at s)
   framed-numbers at n e h =
       let d : 1 + 2 * n ≡ suc (2 * n) = omega arith in
       let a : at < length s = omega arith in
@@ -89,7 +90,16 @@ module _ {s : List ℕ} (b : Bytes s) {v f c : ℕ} (w : Whole s v f c) where
       let e : 0 + 7 * k ≡ 7 * k = omega arith in
       let i = 7 * k + 1 in
       let inside : 7 * k + 7 ≤ length s = omega (arith, place-rises s (7 * v) 0 f (omega arith), place-0 s (7 * v), w .records .facets .inside) in
-      rw (coord k 0 l (lit< tt), coord k 1 l (lit< tt), coord k 2 l (lit< tt), e, bits-signed (number-fits b i), bits-signed (number-fits b (i + 2)), bits-signed (number-fits b (i + 4)), ← numbers-3 s i)
+      rw (
+        coord k 0 l (lit< tt),
+        coord k 1 l (lit< tt),
+        coord k 2 l (lit< tt),
+        e,
+        bits-signed (number-fits b i),
+        bits-signed (number-fits b (i + 2)),
+        bits-signed (number-fits b (i + 4)),
+        ← numbers-3 s i,
+      )
       (framed-numbers b (7 * k) 3 (rw e at (w .records .kinds k l)) inside)
 
   point-pieces : take (7 * v) s ≡ pointBytes points v
@@ -101,23 +111,34 @@ module _ {s : List ℕ} (b : Bytes s) {v f c : ℕ} (w : Whole s v f c) where
   begin-is : (k : ℕ) → k ≤ f → begin begins k ≡ length (cornersAt s (7 * v) k)
   begin-is k l = getD-listed (λ k. length (cornersAt s (7 * v) k)) (f + 1) k 0 (omega arith)
 
+  end-is : (k : ℕ) → k < f → begin begins (k + 1) ≡ length (cornersAt s (7 * v) k) + getD s (place s (7 * v) k) 0
+  end-is k l = begin-is (k + 1) (omega arith) ∙ corners-more s (7 * v) k
+
   facet-is : (k : ℕ) → k < f → facetOf corners begins k ≡ facetFrom s (7 * v) k
   facet-is k l =
       let r = joined-split (facetFrom s (7 * v)) k f l in
       let a = begin-is k (omega arith) in
-      let n : sides begins k ≡ length (facetFrom s (7 * v) k) = rw (a, begin-is (k + 1) (omega arith), corners-more, length-from) (omega arith) in
+      let n : sides begins k ≡ length (facetFrom s (7 * v) k) = rw (a, end-is k l, length-from) (omega arith) in
       rw (n, a, r .1, drop-at (cornersAt s (7 * v) k) (facetFrom s (7 * v) k ++ r .0) (length (cornersAt s (7 * v) k)) refl)
       (take-at (facetFrom s (7 * v) k) (r .0) (length (facetFrom s (7 * v) k)) refl)
 
-  facet-bytes : (k : ℕ) → k < f → bytes (facet (facetOf corners begins k)) ≡ take (1 + 2 * getD s (place s (7 * v) k) 0) (drop (place s (7 * v) k) s)
-  facet-bytes k l = rw (facet-is k l, length-from) (framed-numbers b (place s (7 * v) k) (getD s (place s (7 * v) k) 0) refl (facet-inside (w .records .facets) l))
+  -- where facet k's record starts, and how long it is
+  abbrev at : ℕ → ℕ
+  at k = place s (7 * v) k
+
+  abbrev size : ℕ → ℕ
+  size k = 1 + 2 * getD s (at k) 0
+
+  facet-bytes : (k : ℕ) → k < f → bytes (facet (facetOf corners begins k)) ≡ take (size k) (drop (at k) s)
+  facet-bytes k l =
+      rw (facet-is k l, length-from)
+      (framed-numbers b (at k) (getD s (at k) 0) refl (facet-inside (w .records .facets) l))
 
   facet-pieces : take (place s (7 * v) f) s ≡ take (7 * v) s ++ facetBytes corners begins f
   facet-pieces =
-      let at = place s (7 * v) in
-      let size : ℕ → ℕ = λ k. 1 + 2 * getD s (at k) 0 in
       pieces s at size f (λ k l. place-more s (7 * v) k)
-      ∙ ap₂ (λ (x y : List ℕ). x ++ y) (ap (λ (k : ℕ). take k s) (place-0 s (7 * v))) (sym (joined-same (λ k. bytes (facet (facetOf corners begins k))) (λ k. take (size k) (drop (at k) s)) f facet-bytes))
+      ∙ ap₂ (λ (x y : List ℕ). x ++ y) (ap (λ (k : ℕ). take k s) (place-0 s (7 * v)))
+      (sym (joined-same (λ k. bytes (facet (facetOf corners begins k))) (λ k. take (size k) (drop (at k) s)) f facet-bytes))
 
   -- ---- the end
 
@@ -154,8 +175,8 @@ module _ {s : List ℕ} (b : Bytes s) {v f c : ℕ} (w : Whole s v f c) where
     short = h .short;
     start = rw (begin-is 0 (omega arith), joined-0);
     finish = rw count-facets (begin-is f (omega arith));
-    rise = λ k l. let m : k < f = rw count-facets at l in rw (begin-is k (omega arith), begin-is (k + 1) (omega arith), corners-more) (omega (arith, h .least k m));
-    narrow = λ k l. let m : k < f = rw count-facets at l in rw (begin-is k (omega arith), begin-is (k + 1) (omega arith), corners-more) (omega (arith, h .most k m));
+    rise = λ k l. let m : k < f = rw count-facets at l in rw (begin-is k (omega arith), end-is k m) (omega (arith, h .least k m));
+    narrow = λ k l. let m : k < f = rw count-facets at l in rw (begin-is k (omega arith), end-is k m) (omega (arith, h .most k m));
   }
     where
       h : Facets s (7 * v) f

@@ -12,7 +12,8 @@ use Rattle.points.specs.Points.{vertices, coordOf}
 use Rattle.tables.specs.Tables.{facets, begin, sides, facetOf}
 use Rattle.tape.specs.Little.{bytesOf, numberAt, unsignedAt, bits, number-after, number-bytes, length-bytes, signed-bits, bits-fit}
 use Rattle.whole.specs.Joined.{joined, listed, joined-same, joined-split}
-use Rattle.tape.specs.Records.{facet, body, framed, packed, bytes, pointOf, pointBytes, facetBytes, length-packed, length-points, length-facet, length-facets, begin-within}
+use Rattle.tape.specs.Records.{facet, body, framed, packed, bytes, pointOf, pointBytes, facetBytes}
+use Rattle.tape.specs.Records.{length-packed, length-points, length-facet, length-facets, begin-within}
 use Rattle.tape.specs.Tape.{ending, tape, length-tape}
 use Rattle.tape.specs.Reading.{coordsAt, numbersAt, pointsAt, place, cornersAt, beginsAt}
 use Rattle.tape.specs.Look.{IsEnd}
@@ -29,7 +30,8 @@ packed-at [] post h j l = absurd (omega arith)
 packed-at (n ∷ ns) post h zero l = rw append-assoc (number-bytes 2 n (packed ns ++ post) (h .small 0))
 packed-at (n ∷ ns) post h (suc j) l =
     let e : 2 * suc j ≡ length (bytesOf 2 n) + 2 * j = rw length-bytes (omega arith) in
-    rw (append-assoc, e, number-after 2 (bytesOf 2 n) (packed ns ++ post) (2 * j)) (packed-at ns post (record { small = λ k. h .small (suc k) }) j (omega arith))
+    rw (append-assoc, e, number-after 2 (bytesOf 2 n) (packed ns ++ post) (2 * j))
+    (packed-at ns post (record { small = λ k. h .small (suc k) }) j (omega arith))
 
 listed-take : (ns : List ℕ) (n : ℕ) → n ≤ length ns → listed (λ k. getD ns k 0) n ≡ take n ns
 unfolding joined
@@ -51,12 +53,14 @@ stands pre kind ns post h =
       numbers =
           joined-same (λ j. unsignedAt s (length pre + 1 + 2 * j) ∷ []) (λ j. getD ns j 0 ∷ []) (length ns)
           (λ j k. let e : length pre + 1 + 2 * j ≡ length pre + (1 + 2 * j) = omega arith in
-          ap (λ (x : ℕ). x ∷ []) (ap (numberAt 2 s) e ∙ number-after 2 pre (kind ∷ l) (1 + 2 * j) ∙ number-after 2 (kind ∷ []) l (2 * j) ∙ packed-at ns post h j k))
+          ap (λ (x : ℕ). x ∷ [])
+          (ap (numberAt 2 s) e ∙ number-after 2 pre (kind ∷ l) (1 + 2 * j) ∙ number-after 2 (kind ∷ []) l (2 * j) ∙ packed-at ns post h j k))
           ∙ listed-take ns (length ns) (omega arith) ∙ take-length ns;
       inside = simp (length-append, length-packed) (omega arith);
     }
 
-stands-at : {s : List ℕ} {at : ℕ} (pre : List ℕ) (kind : ℕ) (ns post : List ℕ) → Sixteen ns → s ≡ pre ++ (framed kind ns ++ post) → length pre ≡ at → Stands s at kind ns
+stands-at : {s : List ℕ} {at : ℕ} (pre : List ℕ) (kind : ℕ) (ns post : List ℕ) → Sixteen ns → s ≡ pre ++ (framed kind ns ++ post) → length pre ≡ at
+    → Stands s at kind ns
 stands-at pre kind ns post h e l = rw (e, ← l) (stands pre kind ns post h)
 
 -- ---- the points
@@ -68,7 +72,8 @@ module _ {points : List ℤ} {corners begins : List ℕ} (h : Holds points corne
   stands-point : (v : ℕ) → v < vertices points → Stands s (7 * v) 1 (body (pointOf points v))
   stands-point v l =
       let r = joined-split (λ k. bytes (pointOf points k)) v (vertices points) l in
-      stands-at (pointBytes points v) 1 (body (pointOf points v)) (r .0 ++ (facetBytes corners begins (facets begins) ++ ending (vertices points) (facets begins)))
+      stands-at (pointBytes points v) 1 (body (pointOf points v))
+      (r .0 ++ (facetBytes corners begins (facets begins) ++ ending (vertices points) (facets begins)))
       (sixteen-append (small 0 (lit< tt)) (sixteen-append (small 1 (lit< tt)) (small 2 (lit< tt)))) (rw (r .1) (simp append-assoc)) (length-points points v)
     where
       small : (k : ℕ) → k < 3 → Sixteen (bits (coordOf points v k) ∷ [])
@@ -138,7 +143,15 @@ module _ {points : List ℤ} {corners begins : List ℕ} (h : Holds points corne
   corners-upto (suc f) l =
       let m : f < facets begins = omega arith in
       let e : begin begins (suc f) ≡ begin begins f + sides begins f = omega (arith, h .divided .rise f m, ap (begin begins) (add-one f)) in
-      rw (corners-upto f (omega arith), place-is f (omega arith), kind-is f m, ← length-facet (h .divided) f m, stands-facet f m .numbers, e) (sym (take-add (begin begins f) (sides begins f) corners))
+      rw (
+        corners-upto f (omega arith),
+        place-is f (omega arith),
+        kind-is f m,
+        ← length-facet (h .divided) f m,
+        stands-facet f m .numbers,
+        e,
+      )
+      (sym (take-add (begin begins f) (sides begins f) corners))
 
   pub corners-are : cornersAt s (7 * vertices points) (facets begins) ≡ corners
   corners-are = corners-upto (facets begins) (omega arith) ∙ rw (h .divided .finish) (take-length corners)
@@ -150,7 +163,8 @@ module _ {points : List ℤ} {corners begins : List ℕ} (h : Holds points corne
   begins-are =
       let e : facets begins + 1 ≡ length begins = omega (arith, h .divided .some) in
       rw e
-      (joined-same (λ f. length (cornersAt s (7 * vertices points) f) ∷ []) (λ f. getD begins f 0 ∷ []) (length begins) (λ f l. ap (λ (x : ℕ). x ∷ []) (length-upto f l))
+      (joined-same (λ f. length (cornersAt s (7 * vertices points) f) ∷ []) (λ f. getD begins f 0 ∷ []) (length begins)
+      (λ f l. ap (λ (x : ℕ). x ∷ []) (length-upto f l))
       ∙ listed-take begins (length begins) (omega arith) ∙ take-length begins)
 
   -- ---- the end, and the whole

@@ -18,7 +18,7 @@ use Rattle.tables.specs.Size.{isSize, wrongLengths, wrongEnds, wrongSides}
 use Rattle.tables.specs.Found.{first-none}
 use Rattle.tables.specs.Facets.{onFacets}
 use Rattle.limits.specs.Rules.{wild}
-use Rattle.answers.specs.Answer.{accepted}
+use Rattle.answers.specs.Answer.{ofLength}
 use Rattle.tape.specs.Little.{Bytes}
 use Rattle.whole.specs.Joined.{length-listed}
 use Rattle.whole.specs.Over.{over, take-over}
@@ -26,12 +26,14 @@ use Rattle.tape.specs.Records.{divided, length-facet}
 use Rattle.tape.specs.Tape.{tape}
 use Rattle.tape.specs.Reading.{readTape, pointsAt, cornersAt, beginsAt, length-points-at}
 use Rattle.tape.specs.Whole.{read-whole, whole-read, refused-number}
-use Rattle.tape.specs.declared.Outcome.{Outcome}
-use Rattle.tape.specs.declared.Outcome.the-variants.{Read, Refused}
-use Rattle.reader.specs.Answer.{answerOf, noRoom, outcome, reading, pointsAfter, cornersAfter, beginsAfter}
+use Rattle.reading.specs.declared.Reading.{Reading}
+use Rattle.reading.specs.declared.Reading.the-variants.{Read, Refused}
+use Rattle.reading.specs.Answer.{answerNumber, firstValue, secondValue, thirdValue}
+use Rattle.reading.specs.Room.{noRoom}
+use Rattle.reader.specs.Answer.{reading, pointsAfter, cornersAfter, beginsAfter}
 use Rattle.reader.specs.Room.{with-room}
 use Rattle.writer.specs.Answer.{spaced, written, bufferAfter}
-use Rattle.limits.specs.InOrder.{InOrder, passes, laid}
+use Rattle.limits.specs.InOrder.{InOrder, none-limits, laid}
 use Rattle.writer.specs.Owed.{placed}
 use Rattle.trips.specs.Taped.{Sixteen, Holds, Taped}
 use Rattle.trips.specs.ReadIsTape.{whole-taped}
@@ -52,50 +54,58 @@ module _ {s : List ℕ} where
 
 module _ (tape : List ℕ) (points : List ℤ) (corners begins : List ℕ) where
   abbrev pub filledPoints : List ℤ
-  filledPoints = take (reading tape points corners begins .first * 3) (pointsAfter tape points corners begins)
+  filledPoints = take (firstValue (reading tape points corners begins) * 3) (pointsAfter tape points corners begins)
 
   abbrev pub filledCorners : List ℕ
-  filledCorners = take (reading tape points corners begins .third) (cornersAfter tape points corners begins)
+  filledCorners = take (thirdValue (reading tape points corners begins)) (cornersAfter tape points corners begins)
 
   abbrev pub filledBegins : List ℕ
-  filledBegins = take (reading tape points corners begins .second + 1) (beginsAfter tape points corners begins)
+  filledBegins = take (secondValue (reading tape points corners begins) + 1) (beginsAfter tape points corners begins)
 
   -- a number 0 is an acceptance
   record Accepts : Type 0 where
     v : ℕ
     f : ℕ
     c : ℕ
-    is : outcome tape points corners begins ≡ Read v f c
+    is : reading tape points corners begins ≡ Read v f c
     read : readTape tape ≡ Read v f c
 
-  accepts : reading tape points corners begins .number ≡ 0 → Accepts
+  accepts : answerNumber (reading tape points corners begins) ≡ 0 → Accepts
   accepts n = go (noRoom (length points) (length corners) (length begins)) refl (readTape tape) refl
     where
-      go : (t : Bool) → noRoom (length points) (length corners) (length begins) ≡ t → (o : Outcome) → readTape tape ≡ o → Accepts
+      go : (t : Bool) → noRoom (length points) (length corners) (length begins) ≡ t → (o : Reading) → readTape tape ≡ o → Accepts
       go true e o q = let z : _≡_ {A = ℕ} 16 0 = rw e at n in absurd (omega arith)
       go false e (Read v f c) q = record { v = v; f = f; c = c; is = with-room tape points corners begins e ∙ q; read = q }
       go false e (Refused number offset) q = let z : number ≡ 0 = rw (e, q) at n in absurd (omega (arith, refused-number tape q))
 
   -- every tape that the reader accepts is the tape of the tables that it filled
-  pub accepted-taped : Bytes tape → reading tape points corners begins .number ≡ 0 → Taped tape filledPoints filledCorners filledBegins
+  pub accepted-taped : Bytes tape → answerNumber (reading tape points corners begins) ≡ 0 → Taped tape filledPoints filledCorners filledBegins
   accepted-taped b n =
       let a = accepts n in
       let w = read-whole (a .read) in
       let p = pointsAt tape 0 (a .v) in
       let c = cornersAt tape (7 * a .v) (a .f) in
       let g = beginsAt tape (7 * a .v) (a .f + 1) in
-      rw (a .is, take-over p points (a .v * 3) (length-points-at tape 0 (a .v)), take-over c corners (a .c) (w .corners), take-over g begins (a .f + 1) (length-listed _ (a .f + 1)))
+      rw (
+        a .is,
+        take-over p points (a .v * 3) (length-points-at tape 0 (a .v)),
+        take-over c corners (a .c) (w .corners),
+        take-over g begins (a .f + 1) (length-listed _ (a .f + 1)),
+      )
       (read-taped b (a .read))
 
   -- "Each refusal .. alters no byte of what was lent"
-  pub refused-unchanged : (reading tape points corners begins .number ≡ 0 → ⊥)
-      → (pointsAfter tape points corners begins ≡ points) × (cornersAfter tape points corners begins ≡ corners) × (beginsAfter tape points corners begins ≡ begins)
-  refused-unchanged n = go (outcome tape points corners begins) refl
+  pub record Unchanged : Type 0 where
+    pub same-points : pointsAfter tape points corners begins ≡ points
+    pub same-corners : cornersAfter tape points corners begins ≡ corners
+    pub same-begins : beginsAfter tape points corners begins ≡ begins
+
+  pub refused-unchanged : (answerNumber (reading tape points corners begins) ≡ 0 → ⊥) → Unchanged
+  refused-unchanged n = go (reading tape points corners begins) refl
     where
-      go : (o : Outcome) → outcome tape points corners begins ≡ o
-          → (pointsAfter tape points corners begins ≡ points) × (cornersAfter tape points corners begins ≡ corners) × (beginsAfter tape points corners begins ≡ begins)
-      go (Read v f c) e = absurd (n (ap (λ (o : Outcome). answerOf o .number) e))
-      go (Refused number offset) e = rw e (refl, refl, refl)
+      go : (o : Reading) → reading tape points corners begins ≡ o → Unchanged
+      go (Read v f c) e = absurd (n (ap answerNumber e))
+      go (Refused number offset) e = record { same-points = rw e; same-corners = rw e; same-begins = rw e }
 
 pub refused-unwritten : (points : List ℤ) (corners begins buffer : List ℕ) → (written points corners begins buffer .number ≡ 0 → ⊥)
     → bufferAfter points corners begins buffer ≡ buffer
@@ -107,8 +117,10 @@ module _ {points : List ℤ} {corners begins : List ℕ} (o : InOrder points cor
   threes : length points ≡ vertices points * 3
   unfolding isSize
   threes =
-      let rest = ltb (length points / 3) leastVertices || (ltb mostVertices (length points / 3) || (ltb (length begins) (leastFacets + 1) || (ltb (mostFacets + 1) (length begins) || ltb mostCorners (length corners)))) in
-      let a = neither (wrongLengths (length points) (length corners) (length begins)) (wrongEnds corners begins || anyBelow (wrongSides begins) (facets begins)) (o .sizes) in
+      let begun = ltb (length begins) (leastFacets + 1) || (ltb (mostFacets + 1) (length begins) || ltb mostCorners (length corners)) in
+      let rest = ltb (length points / 3) leastVertices || (ltb mostVertices (length points / 3) || begun) in
+      let uneven = wrongEnds corners begins || anyBelow (wrongSides begins) (facets begins) in
+      let a = neither (wrongLengths (length points) (length corners) (length begins)) uneven (o .sizes) in
       let b = neither (not (eqb (length points % 3) 0)) rest (a .0) in
       let e = eqb-true (length points % 3) 0 (not-false (eqb (length points % 3) 0) (b .0)) in
       omega (arith, div-add-mod' (length points) 3)
@@ -131,8 +143,8 @@ module _ {points : List ℤ} {corners begins : List ℕ} (o : InOrder points cor
 
   -- what the writer answers and leaves, with space
   module _ (buffer : List ℕ) (room : length (tape points corners begins) ≤ length buffer) where
-    pub answer-written : written points corners begins buffer ≡ accepted (length (tape points corners begins)) 0 0
-    answer-written = passes o (spaced (tape points corners begins) buffer) ∙ rw (le-ltb (length buffer) (length (tape points corners begins)) room)
+    pub answer-written : written points corners begins buffer ≡ ofLength (length (tape points corners begins))
+    answer-written = rw (none-limits o, le-ltb (length buffer) (length (tape points corners begins)) room)
 
     pub buffer-written : bufferAfter points corners begins buffer ≡ over (tape points corners begins) buffer
     buffer-written = rw answer-written
@@ -141,22 +153,23 @@ module _ {points : List ℤ} {corners begins : List ℕ} (o : InOrder points cor
 
 -- the writer answers the length of s, and leaves s over the beginning of the buffer
 pub record SameBytes (s : List ℕ) (points : List ℤ) (corners begins buffer : List ℕ) : Type 0 where
-  pub answer : written points corners begins buffer ≡ accepted (length s) 0 0
+  pub answer : written points corners begins buffer ≡ ofLength (length s)
   pub left : bufferAfter points corners begins buffer ≡ over s buffer
   pub same : take (written points corners begins buffer .first) (bufferAfter points corners begins buffer) ≡ s
 
 taped-written : {s : List ℕ} {points : List ℤ} {corners begins : List ℕ} → Taped s points corners begins → InOrder points corners begins
     → (buffer : List ℕ) → length s ≤ length buffer → SameBytes s points corners begins buffer
 taped-written {s} {points} {corners} {begins} t o buffer h =
-    let room : length (tape points corners begins) ≤ length buffer = rw (t .same) at h in
+    let bytes = tape points corners begins in
+    let room : length bytes ≤ length buffer = rw (t .same) at h in
     rw (t .same)
     (record {
       answer = answer-written o buffer room;
       left = buffer-written o buffer room;
-      same = rw (buffer-written o buffer room, answer-written o buffer room) (take-over (tape points corners begins) buffer (length (tape points corners begins)) refl);
+      same = rw (buffer-written o buffer room, answer-written o buffer room) (take-over bytes buffer (length bytes) refl);
     })
 
-pub read-then-written : (s : List ℕ) (points : List ℤ) (corners begins buffer : List ℕ) → Bytes s → reading s points corners begins .number ≡ 0
+pub read-then-written : (s : List ℕ) (points : List ℤ) (corners begins buffer : List ℕ) → Bytes s → answerNumber (reading s points corners begins) ≡ 0
     → InOrder (filledPoints s points corners begins) (filledCorners s points corners begins) (filledBegins s points corners begins) → length s ≤ length buffer
     → SameBytes s (filledPoints s points corners begins) (filledCorners s points corners begins) (filledBegins s points corners begins) buffer
 read-then-written s points corners begins buffer b n o h = taped-written (accepted-taped s points corners begins b n) o buffer h
@@ -165,7 +178,7 @@ read-then-written s points corners begins buffer b n o h = taped-written (accept
 
 -- the reader answers the tables' counts, and leaves the tables over the beginnings of those lent
 pub record SameTables (s : List ℕ) (points : List ℤ) (corners begins : List ℕ) (lentPoints : List ℤ) (lentCorners lentBegins : List ℕ) : Type 0 where
-  pub answer : reading s lentPoints lentCorners lentBegins ≡ answerOf (Read (vertices points) (facets begins) (length corners))
+  pub answer : reading s lentPoints lentCorners lentBegins ≡ Read (vertices points) (facets begins) (length corners)
   pub left-points : pointsAfter s lentPoints lentCorners lentBegins ≡ over points lentPoints
   pub left-corners : cornersAfter s lentPoints lentCorners lentBegins ≡ over corners lentCorners
   pub left-begins : beginsAfter s lentPoints lentCorners lentBegins ≡ over begins lentBegins
@@ -178,10 +191,10 @@ holds-read : {points : List ℤ} {corners begins : List ℕ} → Holds points co
     → SameTables (tape points corners begins) points corners begins lentPoints lentCorners lentBegins
 holds-read {points} {corners} {begins} h p c b room =
     let s = tape points corners begins in
-    let out : outcome s p c b ≡ Read (vertices points) (facets begins) (length corners) = with-room s p c b room ∙ whole-read (holds-whole h) in
+    let out : reading s p c b ≡ Read (vertices points) (facets begins) (length corners) = with-room s p c b room ∙ whole-read (holds-whole h) in
     let last : length begins ≡ facets begins + 1 = omega (arith, h .divided .some) in
     record {
-      answer = ap answerOf out;
+      answer = out;
       left-points = rw (out, points-are h);
       left-corners = rw (out, corners-are h);
       left-begins = rw (out, begins-are h);
@@ -190,9 +203,11 @@ holds-read {points} {corners} {begins} h p c b room =
       same-begins = rw (out, begins-are h) (take-over begins b (facets begins + 1) last);
     }
 
-pub written-then-read : (points : List ℤ) (corners begins buffer : List ℕ) (lentPoints : List ℤ) (lentCorners lentBegins : List ℕ) → InOrder points corners begins
-    → length (tape points corners begins) ≤ length buffer → noRoom (length lentPoints) (length lentCorners) (length lentBegins) ≡ false
-    → SameTables (take (written points corners begins buffer .first) (bufferAfter points corners begins buffer)) points corners begins lentPoints lentCorners lentBegins
+pub written-then-read : (points : List ℤ) (corners begins buffer : List ℕ) (lentPoints : List ℤ) (lentCorners lentBegins : List ℕ)
+    → InOrder points corners begins → length (tape points corners begins) ≤ length buffer
+    → noRoom (length lentPoints) (length lentCorners) (length lentBegins) ≡ false
+    → SameTables (take (written points corners begins buffer .first) (bufferAfter points corners begins buffer)) points corners begins
+    lentPoints lentCorners lentBegins
 written-then-read points corners begins buffer p c b o room lent =
     let h = in-order-holds o in
     rw (taped-written (record { holds = h; same = refl }) o buffer room .same) (holds-read h p c b lent)

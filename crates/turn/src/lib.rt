@@ -3,15 +3,16 @@ ghost use mathlib.Core.Path.{_≡_};
 ghost use Prim.Native.Nat.{_<_};
 ghost use lib.ListN.{length, getD};
 ghost use Rattle.whole.specs.First.{firstBelow, anyBelow};
-ghost use Rattle.points.specs.Points.{Ranged, Vertex};
+ghost use Rattle.points.specs.Points.{Vertex};
 ghost use Rattle.space.specs.Rows.{Row, widest};
+ghost use Rattle.sides.specs.Sides.{Three};
 ghost use Rattle.flat.specs.Facet.{Facet, Measured};
 ghost use Rattle.turn.specs.Rules.{strays, isTurn, turn};
 
 // Whether corner c, other than a and b, is not strictly left of the edge from a to b.
 fn strays(points: &[i32], n: [i64; 3], a: u16, b: u16, c: u16) -> bool
-    requires { ⌜ Ranged (now points) × Row widest n ⌝ }
-    requires { ⌜ Vertex (now points) a × Vertex (now points) b × Vertex (now points) c ⌝ }
+    requires { ⌜ Three (now points) a b c ⌝ }
+    requires { ⌜ Row widest n ⌝ }
     ensures { λ r. ⌜ r ≡ strays (now (points .entry)) n a b c ⌝ }
 {
     if c == a {

@@ -41,6 +41,11 @@ infix 50 _within_
 pub record _within_ (z : ℤ) (N : ℕ) : Type 0 where
   pub abs : natAbs z ≤ N
 
+-- what a function that computes z in machine numbers promises of its result r
+pub record Exact (N : ℕ) (z r : ℤ) : Type 0 where
+  pub is : r ≡ z
+  pub small : r within N
+
 module _ {x y : ℤ} {A B : ℕ} (h : x within A) (k : y within B) where
   pub within-+ : (x +ℤ y) within (A + B)
   within-+ = record { abs = omega (arith, abs-+ x y) }

@@ -1,19 +1,19 @@
 -- Rattle's signed arithmetic on bounded numbers wraps nowhere. Assumes nothing.
 -- Use: an expression says what a function computes of its parameters, and `Small` bounds these. Then `fits` answers what each operation
--- asks, by its number in the order in which they are computed, and `reads` what is returned. See `space`, proofs/det/Proof.antt.
+-- asks, by its number in the order in which they are computed, and `reads` what is returned. See `space`, proofs/minor/Proof.antt.
 use mathlib.Core.Path.{_≡_, refl, sym, _∙_, ap, ap₂, subst}
 use mathlib.Core.List.{List, [], _∷_}
 use mathlib.Core.Bool.{Bool, _&&_}
 use Prim.Native.Nat.{ℕ, zero, suc, _+_, _*_, _^_}
 use native.Mathlib.Omega.{arith}
-use lib.Dec.{T, ltb}
+use lib.Dec.{T, ltb, leb, leb→le}
 use lib.IntN.{ℤ, pos, negℤ, natAbs, _+ℤ_, _-ℤ_, _*ℤ_, +ℤ-idl}
 use mir.Syntax.{Width}
 use mir.Val.{SFits, hbits, toZ, ofZ}
 use mir.Facts.{toZ-ofZ}
 use Rattle.whole.specs.Solver.{Expr, var, num, neg, _⊕_, _⊖_, _⊗_, at, eval}
 use Rattle.whole.specs.Order.{and-l, and-r}
-use Rattle.whole.specs.Bounds.{_within_, within-+, within--, within-*, within-neg, within-fits}
+use Rattle.whole.specs.Bounds.{_within_, Exact, within-+, within--, within-*, within-neg, within-≤, within-fits}
 
 -- ---- what the machine reads: a local holds bits, so the machine reads each operation's result back; and `-x` is `0 - x`
 
@@ -161,8 +161,8 @@ module _ (w : Width) {ρ : List ℤ} {Ns : List ℕ} (s : Small ρ Ns) where
   pub fits : (e : Expr) → T (roomy w Ns e) → (k : ℕ) → Fit w ρ (ops e []) k
   fits e t = all e t [] (λ k. tt)
 
-  pub reads-within : (e : Expr) → T (roomy w Ns e) → mach w ρ e within bound Ns e
-  reads-within e t = subst (λ m. m within bound Ns e) (sym (reads e t)) (bounded e)
+  pub computes : (e : Expr) → T (roomy w Ns e) → Exact (bound Ns e) (eval ρ e) (mach w ρ e)
+  computes e t = record { is = reads e t; small = subst (λ m. m within bound Ns e) (sym (reads e t)) (bounded e) }
 
 -- a parameter's or a result's bits, read back
 pub read-is : {z : ℤ} {N : ℕ} (w : Width) → z within N → T (ltb N (2 ^ hbits w)) → read w z ≡ z
@@ -171,6 +171,12 @@ read-is w h t = toZ-ofZ (within-fits h t)
 pub read-within : {z : ℤ} {N : ℕ} (w : Width) → z within N → T (ltb N (2 ^ hbits w)) → read w z within N
 read-within {z} {N} w h t = subst (λ m. m within N) (sym (read-is w h t)) h
 
--- a call's result, handed over to the next
-pub handed : {r z : ℤ} {N : ℕ} (w : Width) → (r ≡ z) × r within N → T (ltb N (2 ^ hbits w)) → read w r ≡ z
-handed w h t = read-is w (h .1) t ∙ h .0
+-- a call's result, read back for the next
+pub read-exact : {r z : ℤ} {N : ℕ} (w : Width) → Exact N z r → T (ltb N (2 ^ hbits w)) → read w r ≡ z
+read-exact w h t = read-is w (h .small) t ∙ h .is
+
+pub exact-read : {r z : ℤ} {N : ℕ} (w : Width) → Exact N z r → T (ltb N (2 ^ hbits w)) → Exact N z (read w r)
+exact-read w h t = record { is = read-exact w h t; small = read-within w (h .small) t }
+
+pub read-small : {r z : ℤ} {N M : ℕ} (w : Width) → Exact N z r → T (ltb N (2 ^ hbits w)) → T (leb N M) → read w r within M
+read-small {N = N} {M} w h t l = within-≤ (read-within w (h .small) t) (leb→le N M l)

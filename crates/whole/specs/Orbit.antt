@@ -58,7 +58,8 @@ shift s zero x = refl
 shift s (suc i) x = ap s (shift s i x)
 
 -- a place reached from p comes back after j steps only where p does
-pub return-first : {f : ℕ → Bool} {n : ℕ} {s : ℕ → ℕ} {p : ℕ} → Steps f n s → p < n → f p ≡ true → (j k : ℕ) → iterate s j (iterate s k p) ≡ iterate s k p → iterate s j p ≡ p
+pub return-first : {f : ℕ → Bool} {n : ℕ} {s : ℕ → ℕ} {p : ℕ} → Steps f n s → p < n → f p ≡ true → (j k : ℕ)
+    → iterate s j (iterate s k p) ≡ iterate s k p → iterate s j p ≡ p
 unfolding iterate
 return-first S l h j zero e = e
 return-first {s = s} {p = p} S l h j (suc k) e =

@@ -5,18 +5,21 @@ use Prim.Native.Nat.{ℕ}
 use lib.Dec.{ltb, eqb}
 use lib.IntN.{ℤ}
 use lib.ListN.{length}
-use Rattle.answers.specs.Answer.{accepted, refused}
-use Rattle.limits.specs.InOrder.{checked}
+use Rattle.answers.specs.Answer.{refused, ofLength, faultOr}
+use Rattle.answers.specs.Order.{firstOf}
+use Rattle.limits.specs.InOrder.{limitRules}
 use Rattle.answers.specs.declared.Answer.{Answer}
 use Rattle.whole.specs.Over.{over}
 use Rattle.tape.specs.Tape.{tape}
 
--- "The writer refuses with 1, 2 or 3 as the judge does, then 23 SPACE, places 0, exactly when the lent buffer is shorter than the tape. Otherwise it gives the length"
+-- "then 23 SPACE, places 0, exactly when the lent buffer is shorter than the tape. Otherwise it gives the length"
 abbrev pub spaced : List ℕ → List ℕ → Answer
-spaced bytes buffer = cond (ltb (length buffer) (length bytes)) (refused 23 0 0) (accepted (length bytes) 0 0)
+spaced bytes buffer = cond (ltb (length buffer) (length bytes)) (refused 23) (ofLength (length bytes))
 
+-- "The writer refuses with 1, 2 or 3 as the judge does"
 abbrev pub written : List ℤ → List ℕ → List ℕ → List ℕ → Answer
-written points corners begins buffer = checked points corners begins (spaced (tape points corners begins) buffer)
+written points corners begins buffer =
+    faultOr (firstOf (limitRules points corners begins)) (spaced (tape points corners begins) buffer)
 
 -- "and later bytes keep their values"; a refusal alters nothing
 abbrev pub bufferAfter : List ℤ → List ℕ → List ℕ → List ℕ → List ℕ

@@ -1,4 +1,3 @@
 -- The tape's writer.
 pub mod Answer
 pub mod Owed
-pub mod Records

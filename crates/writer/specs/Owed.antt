@@ -1,5 +1,5 @@
 -- What tables in order have for the writer, and what it owes. Assumes nothing.
-use mathlib.Core.Path.{_≡_, refl, ap, _∙_}
+use mathlib.Core.Path.{_≡_, refl, sym, ap, _∙_}
 use mathlib.Core.List.{List}
 use Prim.Native.Nat.{ℕ, _+_, _*_, _≤_, _<_}
 use native.Mathlib.Omega.{arith}
@@ -12,13 +12,15 @@ use Rattle.points.specs.Points.{vertices}
 use Rattle.tables.specs.Tables.{mostVertices, mostFacets, mostCorners, facets}
 use Rattle.tables.specs.Size.{sized}
 use Rattle.limits.specs.Rules.{in-limits}
-use Rattle.answers.specs.Answer.{accepted, refused}
+use Rattle.answers.specs.Answer.{fault, refused, ofLength, numberOf}
+use Rattle.answers.specs.Order.{firstOf, numbered, number-0}
+use Rattle.answers.specs.declared.Fault.the-variants.{Breaks, None}
 use Rattle.answers.specs.declared.Answer.{Answer}
-use Rattle.limits.specs.InOrder.{checked, InOrder, passes, laid, stopped}
+use Rattle.limits.specs.InOrder.{limitRules, InOrder, none-limits, laid}
 use Rattle.whole.specs.Over.{over}
 use Rattle.tape.specs.Records.{Fits16, divided}
 use Rattle.tape.specs.Tape.{tape, length-tape}
-use Rattle.writer.specs.Answer.{spaced, written, bufferAfter}
+use Rattle.writer.specs.Answer.{written, bufferAfter}
 
 -- the sizes of such tables and of their tape
 pub record Long (points : List ℤ) (corners begins : List ℕ) : Type 0 where
@@ -45,22 +47,31 @@ module _ {points : List ℤ} {corners begins : List ℕ} (o : InOrder points cor
     length-is = length-tape points (divided (laid o));
   }
 
+-- a fault's number is not 0
+never-0 : (points : List ℤ) (corners begins : List ℕ) {number first second : ℕ} → firstOf (limitRules points corners begins) ≡ Breaks number first second
+    → number ≡ 0 → ⊥
+unfolding numbered
+never-0 points corners begins {number} {first} {second} h z =
+    let e : numberOf (firstOf (limitRules points corners begins)) ≡ 0 = ap numberOf h ∙ z in
+    let n : Breaks number first second ≡ None = sym h ∙ number-0 (limitRules points corners begins) refl e in
+    let y : _≡_ {A = ℕ} 0 1 = cc in
+    omega arith
+
 module _ (points : List ℤ) (corners begins buffer : List ℕ) where
   abbrev pub Owed : Answer → List ℕ → Type 0
   Owed answer new = (answer ≡ written points corners begins buffer) × (new ≡ bufferAfter points corners begins buffer)
 
   -- number 1, 2 or 3
-  pub faulty-owed : {answer : Answer} → answer ≡ checked points corners begins (accepted 0 0 0) → (answer .number ≡ 0 → ⊥) → Owed answer buffer
-  faulty-owed {answer} e h =
-      let s = stopped points corners begins e h (spaced (tape points corners begins) buffer) in
-      (s, rw (← s, ne-eqb (answer .number) 0 h))
+  pub faulty-owed : {answer : Answer} {number first second : ℕ} → answer ≡ fault number first second
+      → firstOf (limitRules points corners begins) ≡ Breaks number first second → Owed answer buffer
+  faulty-owed {answer} {number} e h =
+      let s : answer ≡ written points corners begins buffer = rw h e in
+      (s, rw (← s, ap (λ a. a .number) e, ne-eqb number 0 (never-0 points corners begins h)))
 
   module _ (o : InOrder points corners begins) where
-    pub short-owed : {answer : Answer} → answer ≡ refused 23 0 0 → length buffer < length (tape points corners begins) → Owed answer buffer
-    short-owed e h =
-        rw (passes o (spaced (tape points corners begins) buffer), lt-ltb (length buffer) (length (tape points corners begins)) h) (e, refl)
+    pub short-owed : {answer : Answer} → answer ≡ refused 23 → length buffer < length (tape points corners begins) → Owed answer buffer
+    short-owed e h = rw (none-limits o, lt-ltb (length buffer) (length (tape points corners begins)) h) (e, refl)
 
-    pub written-owed : {answer : Answer} {n : ℕ} {new : List ℕ} → answer ≡ accepted n 0 0 → n ≡ length (tape points corners begins)
+    pub written-owed : {answer : Answer} {n : ℕ} {new : List ℕ} → answer ≡ ofLength n → n ≡ length (tape points corners begins)
         → length (tape points corners begins) ≤ length buffer → new ≡ over (tape points corners begins) buffer → Owed answer new
-    written-owed a e h q =
-        rw (passes o (spaced (tape points corners begins) buffer), le-ltb (length buffer) (length (tape points corners begins)) h) (a ∙ ap (λ (k : ℕ). accepted k 0 0) e, q)
+    written-owed a e h q = rw (none-limits o, le-ltb (length buffer) (length (tape points corners begins)) h) (a ∙ ap ofLength e, q)

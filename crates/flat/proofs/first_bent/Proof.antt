@@ -3,56 +3,62 @@ use borrow.Author.Needs.{needs}
 use mathlib.Core.Path.{sym, _∙_, ap}
 use mathlib.Core.Bool.{not}
 use native.Mathlib.Omega.{arith}
-use Prim.Native.Nat.{_-_, _≤_}
+use Prim.Native.Nat.{_-_}
 use lib.ListN.{length}
-use Rattle.whole.specs.First.{None, none-more, found, none}
+use Rattle.whole.specs.First.{yet-more, yet-hit, yet-end}
 use Rattle.sides.specs.Sides.{isOn}
-use Rattle.flat.specs.Rules.{isBent, bent-later, in-line-at, not-in-line}
+use Rattle.flat.specs.Facet.{first-three}
+use Rattle.flat.specs.Rules.{Unbent, bent-later, in-line-at, not-in-line}
 use Rattle.flat.proofs.first_bent.Statement.{statement}
 use Rattle.flat.proofs.first_bent.Tie as tie
 
 abbrev Inv-loop : tie.InvT-loop
-Inv-loop points part p₀ p = (3 ≤ p) × (p ≤ length part) × None (isBent points part) p
+Inv-loop points part p₀ p = Unbent points part p
 
 abbrev μ-loop : tie.MeasureT-loop
 μ-loop points part p₀ p = length part - p
 
 in-line-requires : tie.Need-in-line-requires Inv-loop μ-loop
-in-line-requires c κs =
-    let f = c .before .before .before .before .pre in
-    let n = f .named in
-    (f .ranged, (n 0 (omega (arith, f .some)), n 1 (omega (arith, f .some)), n 2 (omega (arith, f .some))))
+in-line-requires c κs = first-three (c .before .before .before .before .pre)
 
 returns : tie.Need-returns Inv-loop μ-loop
 returns c =
-    let f = c .before .before .before .before .before .before .pre in
+    let r = c .before .before .before in
+    let f = r .before .before .before .pre in
     in-line-at _ _ (f .some) (sym (c .before .in-line .ensures) ∙ c .if1 .taken)
 
 loop-holds : tie.Need-loop-holds Inv-loop μ-loop
 loop-holds c =
-    let f = c .before .before .before .before .before .before .pre in
-    (omega arith, f .some, not-in-line _ _ (sym (c .before .in-line .ensures) ∙ c .if1 .left))
+    let r = c .before .before .before in
+    let f = r .before .before .before .pre in
+    let e = not-in-line _ _ (sym (c .before .in-line .ensures) ∙ c .if1 .left) in
+    record { facet = f; later = omega arith; yet = record { none = e; upto = f .some } }
 
 side-at-requires : tie.Need-side-at-requires Inv-loop μ-loop
 side-at-requires c κs =
-    let l = c .before .before in
-    let f = l .before .before .before .before .before .before .before .pre in
-    (f, f .named (l .loop .p) (omega arith))
+    let l = c .before .before .loop in
+    (l .inv .facet, l .inv .facet .named (l .p) (omega arith))
 
 returns-2 : tie.Need-returns-2 Inv-loop μ-loop
 returns-2 c =
-    let l = c .before .before .before .before .before in
-    let e = ap not (c .before .is-on .ensures ∙ ap isOn (c .before .before .side-at .ensures)) in
-    found (l .loop .inv .2) (bent-later _ _ (l .loop .inv .0) ∙ sym e ∙ c .if2 .taken) (omega arith)
+    let s = c .before .before in
+    let i = s .before .before .before .loop .inv in
+    let e = ap not (c .before .is-on .ensures ∙ ap isOn (s .side-at .ensures)) in
+    yet-hit (i .yet) (bent-later _ _ (i .later) ∙ sym e ∙ c .if2 .taken) (omega arith)
 
 loop-again : tie.Need-loop-again Inv-loop μ-loop
 loop-again c =
-    let l = c .before .before .before .before .before in
-    let e = ap not (c .before .is-on .ensures ∙ ap isOn (c .before .before .side-at .ensures)) in
-    (omega arith, omega arith, none-more (l .loop .inv .2) (bent-later _ _ (l .loop .inv .0) ∙ sym e ∙ c .if2 .left))
+    let s = c .before .before in
+    let i = s .before .before .before .loop .inv in
+    let e = ap not (c .before .is-on .ensures ∙ ap isOn (s .side-at .ensures)) in
+    record {
+      facet = i .facet;
+      later = omega arith;
+      yet = yet-more (i .yet) (bent-later _ _ (i .later) ∙ sym e ∙ c .if2 .left) (omega arith);
+    }
 
 returns-3 : tie.Need-returns-3 Inv-loop μ-loop
-returns-3 c = none (c .before .loop .inv .2) (omega arith) (omega arith)
+returns-3 c = yet-end (c .before .loop .inv .yet) (omega arith)
 
 pub first-bent-spec : {M : Type 1} → statement M
 first-bent-spec =

@@ -11,7 +11,7 @@ returns : tie.Need-returns
 returns c =
     let h = c .before .pre in
     let e = toZ-ofZ (sfits-of (c .widen .ok)) ∙ c .widen .ensures ∙ read-is w32 h tt in
-    (e, rw e h)
+    record { is = e; small = rw e h }
 
 pub wide-part-spec : {M : Type 1} → statement M
 wide-part-spec = tie.close (tie.spec (λ c κs. search needs) returns)

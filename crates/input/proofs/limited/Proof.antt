@@ -1,5 +1,6 @@
 -- `input::limited` meets its contract. Assumes nothing.
 use mathlib.Core.Path.{_≡_}
+use lib.IntN.{ℤ}
 use mir.Syntax.{w32}
 use mir.Val.{SFits}
 use mir.Facts.{toZ-ofZ}
@@ -16,13 +17,15 @@ returns-2 c =
     part-high (s .args .z) (rw f at (c .before .if1 .left)) (rw f at (c .if2 .taken))
 
 module _ (c : tie.Else2) where
-  inside : c .before .before .args .z within steepest × (c .before .before .args .z ≡ limited (c .before .before .args .z))
-  inside =
-      let s = c .before .before in
-      let f = toZ-ofZ (s .fits .z) in
-      part-within (s .args .z) (rw f at (c .before .if1 .left)) (rw f at (c .if2 .left))
+  abbrev z : ℤ
+  z = c .before .before .args .z
 
-  fits : SFits w32 (c .before .before .args .z)
+  inside : z within steepest × (z ≡ limited z)
+  inside =
+      let f = toZ-ofZ (c .before .before .fits .z) in
+      part-within z (rw f at (c .before .if1 .left)) (rw f at (c .if2 .left))
+
+  fits : SFits w32 z
   fits = within-fits (inside .0) tt
 
 pub limited-spec : {M : Type 1} → statement M

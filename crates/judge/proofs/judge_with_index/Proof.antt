@@ -1,28 +1,37 @@
 -- `judge::judge_with_index` meets its contract. Assumes nothing.
-use borrow.Author.Needs.{needs}
-use mathlib.Core.Path.{sym, _∙_}
-use Rattle.limits.specs.InOrder.{stopped, passed, passes}
-use Rattle.judge.specs.Judge.{judged}
-use Rattle.judge.specs.Stages.{measured}
+use mathlib.Core.Path.{sym, ap, _∙_}
+use native.Mathlib.Omega.{arith}
+use Rattle.answers.specs.Answer.{answerOf, numberOf, answer-number}
+use Rattle.answers.specs.Order.{all-pass}
+use Rattle.judge.specs.Judge.{rules, judged}
+use Rattle.judge.specs.Stages.{measured-after, none-broken}
 use Rattle.judge.proofs.judge_with_index.Statement.{statement}
 use Rattle.judge.proofs.judge_with_index.Tie as tie
 
+abbrev start : tie.After-first-fault-arg2 → tie.Start
+start c = c .before .before .before .before
+
+of-requires : tie.Need-of-requires
+of-requires c κs e =
+    let a = start (c .before) .args in
+    let (first, index) = c .first-fault .ensures in
+    let passes = all-pass (rules (a .points .now) (a .corners .now) (a .begins .now)) (sym first ∙ e) in
+    omega (arith, measured-after (a .points .now) (a .corners .now) (a .begins .now) passes (omega arith) .sound .laid .some)
+
 returns : tie.Need-returns
 unfolding judged
-returns c = (stopped _ _ _ (c .before .before .check .ensures) (c .if1 .taken) _, record { leaving = λ e. absurd (c .if1 .taken e) })
-
-from-repeat-requires : tie.Need-from-repeat-requires
-from-repeat-requires c κs =
-    let e = c .before .before .before in
-    let k = e .before .before in
-    (measured (passed _ _ _ (k .check .ensures) (e .if1 .left)), k .before .before .before .pre)
-
-returns-2 : tie.Need-returns-2
-unfolding judged
-returns-2 c =
-    let e = c .before .before .before .before in
-    let (r, indexed) = c .from-repeat .ensures in
-    (r ∙ sym (passes (passed _ _ _ (e .before .before .check .ensures) (e .if1 .left)) _), indexed)
+returns c =
+    let f = c .before in
+    let a = start (f .before) .args in
+    let (first, index) = f .first-fault .ensures in
+    let points = a .points .now in
+    let corners = a .corners .now in
+    let begins = a .begins .now in (
+      c .of .ensures ∙ ap (answerOf points corners begins) first,
+      record { indexed = λ e.
+        let n = sym (answer-number points corners begins (f .first-fault .result)) ∙ sym (ap (λ r. r .number) (c .of .ensures)) ∙ e in
+        index .indexed (first ∙ none-broken points corners begins (ap numberOf (sym first) ∙ n)) },
+    )
 
 pub judge-with-index-spec : {M : Type 1} → statement M
-judge-with-index-spec = tie.close (tie.spec (λ c κs. search needs) returns from-repeat-requires returns-2)
+judge-with-index-spec = tie.close (tie.spec (λ c κs. start c .pre) of-requires returns)

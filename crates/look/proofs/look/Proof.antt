@@ -15,33 +15,57 @@ cast-kind c = omega (arith, c .shared-slice-known2 .given (c .before .before .be
 
 returns-2 : tie.Need-returns-2
 unfolding lookAt
-returns-2 c = let k = c .before .before .before in simp (lt-leb _ _ (k .if1 .left), eq-eqb _ _ (c .before .if2 .taken)) (c .look-end .ensures)
+returns-2 c =
+    let t2 = c .before in
+    let e1 = t2 .before .before in
+    simp (lt-leb _ _ (e1 .if1 .left), eq-eqb _ _ (t2 .if2 .taken)) (c .look-end .ensures)
 
 returns-3 : tie.Need-returns-3
 unfolding lookAt
 returns-3 c =
-    let b = c .before .before in
-    simp (lt-leb _ _ (b .before .before .if1 .left), ne-eqb _ _ (b .if2 .left), eq-eqb _ _ (c .before .if3 .taken)) (c .look-point .ensures)
+    let t3 = c .before in
+    let e2 = t3 .before in
+    let e1 = e2 .before .before in
+    simp (lt-leb _ _ (e1 .if1 .left), ne-eqb _ _ (e2 .if2 .left), eq-eqb _ _ (t3 .if3 .taken)) (c .look-point .ensures)
 
 returns-4 : tie.Need-returns-4
 unfolding lookAt
 returns-4 c =
-    let b = c .before .before in
-    simp (lt-leb _ _ (b .before .before .if1 .left), ne-eqb _ _ (b .if2 .left), ne-eqb _ _ (c .before .if3 .left), eq-eqb _ _ (c .if4 .taken))
+    let e3 = c .before in
+    let e2 = e3 .before in
+    let e1 = e2 .before .before in
+    simp (lt-leb _ _ (e1 .if1 .left), ne-eqb _ _ (e2 .if2 .left), ne-eqb _ _ (e3 .if3 .left), eq-eqb _ _ (c .if4 .taken))
 
 returns-5 : tie.Need-returns-5
 unfolding lookAt
 returns-5 c =
-    let b = c .before .before .before in
-    simp
-    (lt-leb _ _ (b .before .before .if1 .left), ne-eqb _ _ (b .if2 .left), ne-eqb _ _ (c .before .before .if3 .left), ne-eqb _ _ (c .before .if4 .left), lt-ltb _ _ (c .if5 .taken))
+    let e4 = c .before in
+    let e3 = e4 .before in
+    let e2 = e3 .before in
+    let e1 = e2 .before .before in
+    simp (
+      lt-leb _ _ (e1 .if1 .left),
+      ne-eqb _ _ (e2 .if2 .left),
+      ne-eqb _ _ (e3 .if3 .left),
+      ne-eqb _ _ (e4 .if4 .left),
+      lt-ltb _ _ (c .if5 .taken),
+    )
 
 returns-6 : tie.Need-returns-6
 unfolding lookAt
 returns-6 c =
-    let b = c .before .before .before .before in
-    simp
-    (lt-leb _ _ (b .before .before .if1 .left), ne-eqb _ _ (b .if2 .left), ne-eqb _ _ (c .before .before .before .if3 .left), ne-eqb _ _ (c .before .before .if4 .left), le-ltb _ _ (c .before .if5 .left))
+    let e5 = c .before in
+    let e4 = e5 .before in
+    let e3 = e4 .before in
+    let e2 = e3 .before in
+    let e1 = e2 .before .before in
+    simp (
+      lt-leb _ _ (e1 .if1 .left),
+      ne-eqb _ _ (e2 .if2 .left),
+      ne-eqb _ _ (e3 .if3 .left),
+      ne-eqb _ _ (e4 .if4 .left),
+      le-ltb _ _ (e5 .if5 .left),
+    )
     (c .look-facet .ensures)
 
 pub look-spec : {M : Type 1} → statement M

@@ -3,8 +3,9 @@ use borrow.Author.Needs.{needs}
 use borrow.Author.Tests.{lt-ltb, le-ltb}
 use mathlib.Core.Path.{sym, _∙_}
 use Rattle.whole.specs.First.{never}
-use Rattle.outline.specs.Outline.{count, outOfRange, judgedOutline}
-use Rattle.outline.specs.Limits.{counted, in-range}
+use Rattle.once_round.specs.Words.{count, outOfRange}
+use Rattle.outline.specs.Outline.{judgedOutline}
+use Rattle.once_round.specs.Limits.{counted, in-range}
 use Rattle.outline.proofs.judge_outline.Statement.{statement}
 use Rattle.outline.proofs.judge_outline.Tie as tie
 

@@ -1,38 +1,87 @@
--- `outside::near_part` meets its contract: the law of searches, over the corners of a facet. Assumes nothing.
+-- `outside::near_part` meets its contract: the law of searches over the corners of a facet, and along the chain of each. Assumes nothing.
 use borrow.Author.Needs.{needs}
-use mathlib.Core.Path.{sym, _∙_}
 use native.Mathlib.Omega.{arith}
-use Prim.Native.Nat.{_-_, _≤_}
-use lib.ListN.{length, getD}
-use Rattle.whole.specs.First.{None, none-0, none-more, any-hit, any-miss}
-use Rattle.outside.specs.Near.{isNear}
+use Prim.Native.Nat.{_-_, _<_}
+use lib.ListN.{length}
+use Rattle.edges.specs.Along.{place-small, link-falls}
+use Rattle.outside.specs.Near.{Nearing, nearing-0, nearing-more, nearing-none, own-facet, corner-small}
+use Rattle.outside.specs.Near.{Chaining, chaining-0, chaining-hit, chaining-more, end-named}
 use Rattle.outside.proofs.near_part.Statement.{statement}
 use Rattle.outside.proofs.near_part.Tie as tie
 
+abbrev Inv-loop2 : tie.InvT-loop2
+Inv-loop2 points corners begins edges heads f part p q₀ q = Chaining points corners begins edges heads f part p q
+
+abbrev μ-loop2 : tie.MeasureT-loop2
+μ-loop2 points corners begins edges heads f part p q₀ q = q
+
 abbrev Inv-loop : tie.InvT-loop
-Inv-loop points corners begins ends last back part p₀ p = (p ≤ length part) × None (λ p. isNear points corners begins part (getD part p 0)) p
+Inv-loop points corners begins edges heads f part p₀ p = Nearing points corners begins edges heads f part p
 
 abbrev μ-loop : tie.MeasureT-loop
-μ-loop points corners begins ends last back part p₀ p = length part - p
+μ-loop points corners begins edges heads f part p₀ p = length part - p
 
-is-near-requires : tie.Need-is-near-requires Inv-loop μ-loop
-is-near-requires c κs =
-    let l = c .before .before in
-    let s = l .before .before .before .before in
-    (s .pre .0, (s .pre .1, s .pre .1 .named (l .loop .p) (omega arith)))
+part-requires : tie.Need-part-requires Inv-loop2 μ-loop2 Inv-loop μ-loop
+part-requires c κs = let (tables, facet-in) = c .before .before .pre in (tables .measured .sound .laid, facet-in)
+
+loop-holds : tie.Need-loop-holds Inv-loop2 μ-loop2 Inv-loop μ-loop
+loop-holds c = let (tables, facet-in) = c .before .before .before .pre in nearing-0 tables facet-in (c .part .ensures)
+
+head-at-requires : tie.Need-head-at-requires Inv-loop2 μ-loop2 Inv-loop μ-loop
+head-at-requires c κs = rw (c .wide .ensures .is) (corner-small (c .before .before .before .loop .inv) (omega arith))
+
+loop2-holds : tie.Need-loop2-holds Inv-loop2 μ-loop2 Inv-loop μ-loop
+loop2-holds c =
+    let w = c .before in
+    rw (c .head-at .ensures, w .wide .ensures .is) (chaining-0 (w .before .before .before .loop .inv) (omega arith))
+
+is-outside-requires : tie.Need-is-outside-requires Inv-loop2 μ-loop2 Inv-loop μ-loop
+is-outside-requires c κs =
+    let i = c .before .before .loop2 .inv in
+    (own-facet (i .nearing), rw (c .end-at .ensures) (end-named i (omega arith)))
+
+returns : tie.Need-returns Inv-loop2 μ-loop2 Inv-loop μ-loop
+returns c =
+    let o = c .before in
+    let e = o .before in
+    chaining-hit (e .before .before .loop2 .inv) (omega arith) (rw (e .end-at .ensures) at (o .is-outside .ensures)) (c .if1 .taken)
+
+loop2-less : tie.Need-loop2-less Inv-loop2 μ-loop2 Inv-loop μ-loop
+loop2-less c =
+    let e = c .before .before .before in
+    rw (c .back-at .ensures) (link-falls (e .before .before .loop2 .inv .seeking) (omega arith))
+
+loop2-again : tie.Need-loop2-again Inv-loop2 μ-loop2 Inv-loop μ-loop
+loop2-again c =
+    let t = c .before in
+    let o = t .before in
+    let e = o .before in
+    rw (c .back-at .ensures)
+    (chaining-more (e .before .before .loop2 .inv) (omega arith) (rw (e .end-at .ensures) at (o .is-outside .ensures)) (t .if1 .left))
 
 pub near-part-spec : {M : Type 1} → statement M
 near-part-spec =
     tie.close
     (tie.spec
+    Inv-loop2
+    μ-loop2
     Inv-loop
     μ-loop
-    (λ c. (omega arith, none-0 _))
+    part-requires
+    loop-holds
     (λ c. omega arith)
     (λ c. omega arith)
-    is-near-requires
-    (λ c. any-hit (c .before .before .before .before .loop .inv .1) (sym (c .before .is-near .ensures) ∙ c .if1 .taken) (omega arith))
+    (λ c κs. search needs)
+    head-at-requires
+    loop2-holds
+    (λ c. omega arith)
+    (λ c κs. place-small (c .before .loop2 .inv .seeking) (omega arith))
+    is-outside-requires
+    returns
+    (λ c κs. let e = c .before .before in place-small (e .before .before .loop2 .inv .seeking) (omega arith))
+    loop2-less
+    loop2-again
     (λ c. omega arith)
     (λ c. omega arith)
-    (λ c. (omega arith, none-more (c .before .before .before .before .loop .inv .1) (sym (c .before .is-near .ensures) ∙ c .if1 .left)))
-    (λ c. any-miss (c .before .loop .inv .1) (omega arith) (omega arith)))
+    (λ c. nearing-more (c .before .loop2 .inv) (omega arith))
+    (λ c. nearing-none (c .before .loop .inv) (omega arith)))

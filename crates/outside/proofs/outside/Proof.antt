@@ -6,10 +6,13 @@ use Rattle.outside.proofs.outside.Statement.{statement}
 use Rattle.outside.proofs.outside.Tie as tie
 
 near-requires : tie.Need-near-requires
-near-requires c κs = let (p, l) = c .before .before .before .pre in (p .measured, l)
+near-requires c κs = let ready = c .before .before .before .pre in record { measured = ready .passed .measured; indexed = ready .indexed }
 
 returns : tie.Need-returns
-returns c = sym (near-enough (c .before .before .before .before .before .pre .0) (sym (c .before .near .ensures) ∙ not-true _ (c .if2 .taken)))
+returns c =
+    let t = c .before in
+    sym (near-enough (t .before .before .before .before .pre .passed) (sym (t .near .ensures) ∙ not-true _ (c .if2 .taken)))
 
 pub outside-spec : {M : Type 1} → statement M
-outside-spec = tie.close (tie.spec near-requires returns (λ c κs. c .before .before .before .pre .0 .measured) (λ c. c .scan .ensures))
+outside-spec =
+    tie.close (tie.spec near-requires returns (λ c κs. c .before .before .before .pre .passed .measured) (λ c. c .scan .ensures))

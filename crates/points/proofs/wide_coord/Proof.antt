@@ -9,7 +9,7 @@ returns : tie.Need-returns
 returns c =
     let (h, l, k) = c .before .before .pre in
     let e = toZ-ofZ (sfits-of (c .widen .ok)) ∙ c .widen .ensures ∙ toZ-ofZ (sfits-of (c .before .coord .ok)) ∙ c .before .coord .ensures in
-    (e, rw e (h _ _ l k))
+    record { is = e; small = rw e (h _ _ l k) }
 
 pub wide-coord-spec : {M : Type 1} → statement M
 wide-coord-spec = tie.close (tie.spec (λ c κs. search needs) (λ c κs. search needs) returns)

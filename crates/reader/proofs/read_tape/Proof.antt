@@ -1,67 +1,95 @@
 -- `reader::read_tape` meets its contract. Assumes nothing.
 use borrow.Author.Needs.{needs}
 use mathlib.Core.Path.{_≡_, sym, _∙_}
+use mathlib.Core.Bool.{false}
+use mathlib.Core.List.{List}
+use Prim.Native.Nat.{ℕ}
 use native.Mathlib.Omega.{arith}
+use lib.IntN.{ℤ}
+use lib.ListN.{length}
+use Rattle.reading.specs.Room.{noRoom, Roomy, roomy}
+use Rattle.reading.specs.declared.Reading.{Reading}
+use Rattle.reading.specs.declared.Reading.the-variants.{Read}
 use Rattle.tape.specs.Reading.{readTape}
 use Rattle.tape.specs.Whole.{Whole, read-whole}
-use Rattle.tape.specs.declared.Outcome.the-variants.{Read}
-use Rattle.reader.specs.Answer.{outcome}
-use Rattle.reader.specs.Room.{Roomy, roomy, no-room, with-room, points-inside, for-points, for-facets, refusing, accepting}
+use Rattle.reader.specs.Answer.{reading}
+use Rattle.reader.specs.Room.{no-room, with-room, points-inside, for-points, for-facets, refusing, accepting}
 use Rattle.reader.proofs.read_tape.Statement.{statement}
 use Rattle.reader.proofs.read_tape.Tie as tie
 
-abbrev entry : tie.After-no-room → tie.Start
-entry c = c .before .before .before .before
+-- what is lent
+module _ (c : tie.After-no-room) where
+  abbrev entry : tie.Start
+  entry = c .before .before .before .before
+
+  abbrev s : List ℕ
+  s = entry .args .tape .now
+
+  abbrev points : List ℤ
+  points = entry .args .points .now
+
+  abbrev corners : List ℕ
+  corners = entry .args .corners .now
+
+  abbrev begins : List ℕ
+  begins = entry .args .begins .now
 
 returns : tie.Need-returns
 returns c =
-    let a = entry (c .before) .args in
-    refusing (a .tape .now) (a .points .now) (a .corners .now) (a .begins .now)
-    (no-room (a .tape .now) (a .points .now) (a .corners .now) (a .begins .now) (sym (c .before .no-room .ensures) ∙ c .if1 .taken))
+    let b = c .before in
+    refusing _ _ _ _ (no-room (s b) (points b) (corners b) (begins b) (sym (b .no-room .ensures) ∙ c .if1 .taken))
 
--- with room: what is lent, and that the outcome is the reading
-room : (c : tie.Else1) → let a = entry (c .before) .args in Roomy (a .points .now) (a .corners .now) (a .begins .now)
-room c = roomy (sym (c .before .no-room .ensures) ∙ c .if1 .left)
+-- with room
+module _ (c : tie.Else1) where
+  abbrev b : tie.After-no-room
+  b = c .before
 
-by-room : (c : tie.Else1) → let a = entry (c .before) .args in outcome (a .tape .now) (a .points .now) (a .corners .now) (a .begins .now) ≡ readTape (a .tape .now)
-by-room c =
-    let a = entry (c .before) .args in
-    with-room (a .tape .now) (a .points .now) (a .corners .now) (a .begins .now) (sym (c .before .no-room .ensures) ∙ c .if1 .left)
+  room : noRoom (length (points b)) (length (corners b)) (length (begins b)) ≡ false
+  room = sym (b .no-room .ensures) ∙ c .if1 .left
+
+  lent : Roomy (points b) (corners b) (begins b)
+  lent = roomy room
+
+  as-read : {r : Reading} → readTape (s b) ≡ r → reading (s b) (points b) (corners b) (begins b) ≡ r
+  as-read e = with-room (s b) (points b) (corners b) (begins b) room ∙ e
 
 -- a tape that is read
-abbrev decided : tie.After-v → tie.After-decide
-decided c = c .before .before
+module _ (c : tie.After-v) where
+  abbrev e : tie.Else1
+  e = c .before .before .before
 
-is-read : (c : tie.After-v) → let g = c .v .given .0 in readTape (entry (decided c .before .before) .args .tape .now) ≡ Read (g .0) (g .1 .0) (g .1 .1 .0)
-is-read c = sym (decided c .decide .ensures) ∙ c .v .given .1
+  abbrev v : ℕ
+  v = c .v .given .0 .0
 
-is-whole : (c : tie.After-v) → let g = c .v .given .0 in Whole (entry (decided c .before .before) .args .tape .now) (g .0) (g .1 .0) (g .1 .1 .0)
-is-whole c = read-whole (is-read c)
+  abbrev f : ℕ
+  f = c .v .given .0 .1 .0
 
-fill-points-requires : tie.Need-fill-points-requires
-fill-points-requires c κs = let b = c .before .before in for-points (is-whole b) (room (decided b .before))
+  abbrev n : ℕ
+  n = c .v .given .0 .1 .1 .0
 
-mul-fill-facets : tie.Need-mul-fill-facets
-mul-fill-facets c = let b = c .before .before .before .before in omega (arith, points-inside (is-whole b) (room (decided b .before)))
+  is-read : readTape (s (b e)) ≡ Read v f n
+  is-read = sym (c .before .before .decide .ensures) ∙ c .v .given .1
 
-fill-facets-requires : tie.Need-fill-facets-requires
-fill-facets-requires c κs = let b = c .before .before .before .before .before .before in for-facets (is-whole b) (room (decided b .before))
+  is-whole : Whole (s (b e)) v f n
+  is-whole = read-whole is-read
+
+abbrev asked : tie.After-points → tie.After-v
+asked c = c .before .before .before .before
+
+abbrev filled : tie.After-fill-facets → tie.After-points
+filled c = c .before .before .before
 
 returns-2 : tie.Need-returns-2
 returns-2 c =
     let g = c .before .before .before .before in
-    let b = g .before .before .before .before .before .before .before in
-    let e = decided b .before in
-    let a = entry (e .before) .args in
-    let f = g .fill-facets .ensures in
-    accepting (a .tape .now) (a .points .now) (a .corners .now) (a .begins .now) (by-room e ∙ is-read b)
-    (g .before .before .before .before .fill-points .ensures) (f .0) (f .1)
+    let p = filled g in
+    let t = asked p in
+    accepting _ _ _ _ (as-read (e t) (is-read t)) (p .before .fill-points .ensures) (g .fill-facets .ensures .0) (g .fill-facets .ensures .1)
 
 returns-3 : tie.Need-returns-3
 returns-3 c =
     let d = c .before .before .before in
-    let a = entry (d .before .before) .args in
-    refusing (a .tape .now) (a .points .now) (a .corners .now) (a .begins .now) (by-room (d .before) ∙ sym (d .decide .ensures) ∙ c .before .number .given .1)
+    refusing _ _ _ _ (as-read (d .before) (sym (d .decide .ensures) ∙ c .before .number .given .1))
 
 pub read-tape-spec : {M : Type 1} → statement M
 read-tape-spec =
@@ -71,9 +99,11 @@ read-tape-spec =
     returns
     (λ c κs. search needs)
     (λ c. search needs)
-    fill-points-requires
-    mul-fill-facets
-    fill-facets-requires
+    -- the points: requires
+    (λ c κs. let t = c .before .before in for-points (is-whole t) (lent (e t)))
+    -- the facets: mul, requires
+    (λ c. let t = asked c in omega (arith, points-inside (is-whole t) (lent (e t))))
+    (λ c κs. let t = asked (c .before .before) in for-facets (is-whole t) (lent (e t)))
     (λ c. search needs)
     (λ c. search needs)
     (λ c. search needs)

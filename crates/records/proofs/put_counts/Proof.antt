@@ -8,13 +8,15 @@ use Rattle.records.specs.Records.{framed-two}
 use Rattle.records.proofs.put_counts.Statement.{statement}
 use Rattle.records.proofs.put_counts.Tie as tie
 
-abbrev start : tie.After-slice-known3 → tie.Start
-start c = c .before .before .before .before .before .before .before .before .before
+module _ (c : tie.After-put-unsigned2) where
+  abbrev one : tie.After-put-unsigned
+  one = c .before .before .before .before
 
-done : (c : tie.After-slice-known3) → let a = start c .args in Wrote (framed (a .kind) (a .v ∷ a .f ∷ [])) (a .rest .now) (c .before .before .put-unsigned2 .last .0)
-done c =
-    let a = start c .args in
-    framed-two (a .rest .now) (a .kind) (a .v) (a .f) (c .before .before .before .before .before .before .put-unsigned .ensures) (c .before .before .put-unsigned2 .ensures) (start c .pre)
+  abbrev start : tie.Start
+  start = one .before .before .before
+
+  done : let a = start .args in Wrote (framed (a .kind) (a .v ∷ a .f ∷ [])) (a .rest .now) (c .put-unsigned2 .last .0)
+  done = let a = start .args in framed-two (a .rest .now) (a .kind) (a .v) (a .f) (one .put-unsigned .ensures) (c .put-unsigned2 .ensures) (start .pre)
 
 pub put-counts-spec : {M : Type 1} → statement M
 put-counts-spec =
@@ -23,5 +25,5 @@ put-counts-spec =
     (λ c. search needs)
     (λ c κs. rw length-set (search needs))
     (λ c κs. search needs)
-    (λ c. done c .long)
-    (λ c. done c .is))
+    (λ c. done (c .before .before) .long)
+    (λ c. done (c .before .before) .is))

@@ -5,7 +5,9 @@ use Rattle.reflex.proofs.is_reflex.Statement.{statement}
 use Rattle.reflex.proofs.is_reflex.Tie as tie
 
 returns : tie.Need-returns
-returns c = rw (c .some-not-inside .ensures, c .before .before .before .next-position .ensures .0)
+returns c =
+    let (next-is, below) = c .before .before .before .next-position .ensures in
+    rw (c .some-not-inside .ensures, next-is)
 
 pub is-reflex-spec : {M : Type 1} → statement M
 is-reflex-spec =

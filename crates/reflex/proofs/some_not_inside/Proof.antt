@@ -18,8 +18,20 @@ abbrev μ-loop : tie.MeasureT-loop
 is-not-inside-requires : tie.Need-is-not-inside-requires Inv-loop μ-loop
 is-not-inside-requires c κs =
     let l = c .before .before in
-    let (f, g) = l .before .before .before .pre in
-    (f, g .named (l .loop .r) (omega arith))
+    let (own, across) = l .before .before .before .pre in
+    (own, across .named (l .loop .r) (omega arith))
+
+returns : tie.Need-returns Inv-loop μ-loop
+returns c =
+    let t = c .before in
+    let (upto, none) = t .before .before .before .loop .inv in
+    any-hit none (sym (t .is-not-inside .ensures) ∙ c .if1 .taken) (omega arith)
+
+loop-again : tie.Need-loop-again Inv-loop μ-loop
+loop-again c =
+    let t = c .before in
+    let (upto, none) = t .before .before .before .loop .inv in
+    (omega arith, none-more none (sym (t .is-not-inside .ensures) ∙ c .if1 .left))
 
 pub some-not-inside-spec : {M : Type 1} → statement M
 some-not-inside-spec =
@@ -31,8 +43,8 @@ some-not-inside-spec =
     (λ c. search needs)
     (λ c. search needs)
     is-not-inside-requires
-    (λ c. any-hit (c .before .before .before .before .loop .inv .1) (sym (c .before .is-not-inside .ensures) ∙ c .if1 .taken) (omega arith))
+    returns
     (λ c. omega arith)
     (λ c. omega arith)
-    (λ c. (omega arith, none-more (c .before .before .before .before .loop .inv .1) (sym (c .before .is-not-inside .ensures) ∙ c .if1 .left)))
-    (λ c. any-miss (c .before .loop .inv .1) (omega arith) (omega arith)))
+    loop-again
+    (λ c. let (upto, none) = c .before .loop .inv in any-miss none (omega arith) (omega arith)))

@@ -1,59 +1,59 @@
 -- `ring::broken` meets its contract. The loop's invariant: `Turning`. The measure: links fall. Assumes nothing.
 use borrow.Author.Needs.{needs}
 use mathlib.Core.Path.{sym, _∙_}
-use Prim.Native.Nat.{_-_}
+use Prim.Native.Nat.{_<_}
 use native.Mathlib.Omega.{arith}
-use Rattle.edges.specs.Chains.{on-0, falls}
-use Rattle.ring.specs.Turning.{Turning, turning-0, turning-more, turning-back, turning-end, turning-none}
+use Rattle.index.specs.Entries.{headAt}
+use Rattle.ring.specs.Turning.{Turning, first-small, turning-0, turning-none, turning-more, turning-back, turning-end}
+use Rattle.ring.specs.Turning.{turn-small, turn-falls}
 use Rattle.ring.proofs.broken.Statement.{statement}
 use Rattle.ring.proofs.broken.Tie as tie
 
 abbrev Inv-loop : tie.InvT-loop
-Inv-loop corners begins home last back across v head p q₀ k₀ q k = Turning corners begins v p q k
+Inv-loop corners begins edges heads v head p q₀ k₀ q k = Turning corners begins edges heads v p q k
 
 abbrev μ-loop : tie.MeasureT-loop
-μ-loop corners begins home last back across v head p q₀ k₀ q k = k
+μ-loop corners begins edges heads v head p q₀ k₀ q k = k
 
 returns : tie.Need-returns Inv-loop μ-loop
 returns c =
-    let s = c .before .before .before .before .before in
-    turning-none (s .pre .1) (s .args .begins .now) (s .pre .2) (sym (c .before .wide .ensures .is) ∙ c .if1 .taken)
+    let h = c .before in
+    let (crossed, l) = h .before .before .before .pre in
+    turning-none crossed l (sym (h .head-at .ensures) ∙ c .if1 .taken)
 
-start : tie.Need-element-copy-out-wide-2 Inv-loop μ-loop
-start c =
-    let s = c .before .before .before .before .before in
-    rw (c .before .wide .ensures .is) (omega (arith, on-0 (s .pre .1) (s .pre .2) .upto, s .pre .0 .homes .laid .short))
+-- some edge leaves v
+first : tie.Need-back-at-requires Inv-loop μ-loop
+first c κs =
+    let h = c .before in
+    let s = h .before .before .before in
+    let (crossed, l) = s .pre in
+    let some : 0 < headAt (s .args .heads .now) (s .args .v) = omega (arith, h .head-at .ensures, c .if1 .left) in
+    rw (h .head-at .ensures) (first-small crossed l some)
 
 loop-holds : tie.Need-loop-holds Inv-loop μ-loop
 loop-holds c =
-    let e = c .before .before in
-    let s = e .before .before .before .before .before in
-    let w = e .before .wide .ensures .is in
-    rw (c .wide2 .ensures .is) (turning-0 (s .pre .1) (s .args .begins .now) (e .before .wide .result - 1) (s .pre .2) (sym w ∙ omega (arith, e .if1 .left)))
-
-round-requires : tie.Need-round-requires Inv-loop μ-loop
-round-requires c κs = let l = c .before in (l .before .before .before .before .before .before .before .before .pre .0, l .loop .inv .below)
+    let t = c .before in
+    let h = t .before in
+    let s = h .before .before .before in
+    let (crossed, l) = s .pre in
+    let some : 0 < headAt (s .args .heads .now) (s .args .v) = omega (arith, h .head-at .ensures, t .if1 .left) in
+    rw (c .back-at .ensures, h .head-at .ensures) (turning-0 crossed l some)
 
 returns-2 : tie.Need-returns-2 Inv-loop μ-loop
-returns-2 c = let l = c .before .before .before in turning-back (l .loop .inv) (omega arith) (c .before .round .ensures) (c .if2 .taken)
-
-link : tie.Need-element-copy-out-wide-3 Inv-loop μ-loop
-link c =
-    let l = c .before .before .before in
-    omega (arith, l .loop .inv .met .on .upto, l .before .before .before .before .before .before .before .before .pre .0 .homes .laid .short)
+returns-2 c =
+    let r = c .before in
+    turning-back (r .before .before .loop .inv) (omega arith) (r .round .ensures) (c .if2 .taken)
 
 loop-less : tie.Need-loop-less Inv-loop μ-loop
 loop-less c =
-    let l = c .before .before .before .before .before in
-    rw (c .wide3 .ensures .is) (falls (l .before .before .before .before .before .before .before .before .pre .1) (omega arith) (l .loop .inv .met .on))
+    let r = c .before .before in
+    rw (c .back-at2 .ensures) (turn-falls (r .before .before .loop .inv) (omega arith))
 
 loop-again : tie.Need-loop-again Inv-loop μ-loop
 loop-again c =
-    let e = c .before .before in
-    let l = e .before .before .before in
-    let s = l .before .before .before .before .before .before .before .before in
-    rw (c .wide3 .ensures .is)
-    (turning-more (s .pre .1) (l .loop .inv) (s .pre .0 .homes .laid) (s .pre .0 .crossed .paired) (omega arith) (e .before .round .ensures) (e .if2 .left))
+    let t = c .before in
+    let r = t .before in
+    rw (c .back-at2 .ensures) (turning-more (r .before .before .loop .inv) (omega arith) (r .round .ensures) (t .if2 .left))
 
 pub broken-spec : {M : Type 1} → statement M
 broken-spec =
@@ -61,21 +61,15 @@ broken-spec =
     (tie.spec
     Inv-loop
     μ-loop
-    (λ c. search needs)
-    (λ c. search needs)
     (λ c κs. search needs)
     returns
     (λ c. search needs)
-    (λ c. omega (arith, start c))
-    start
-    (λ c κs. search needs)
+    first
     loop-holds
-    round-requires
+    (λ c κs. let T = c .before .loop .inv in (T .crossed, T .below))
     returns-2
     (λ c. omega arith)
-    (λ c. omega (arith, link c))
-    link
-    (λ c κs. search needs)
+    (λ c κs. turn-small (c .before .before .before .loop .inv) (omega arith))
     loop-less
     loop-again
     (λ c. turning-end (c .before .loop .inv) (omega arith)))

@@ -2,25 +2,30 @@
 use Prim.Native.Nat.{_-_, _≤_}
 use native.Mathlib.Omega.{arith}
 use Rattle.whole.specs.First.{None, none-0, none-more, hit, miss}
+use Rattle.tables.specs.Tables.{mostVertices}
 use Rattle.tables.specs.declared.Found.the-variants.{At, Nothing}
+use Rattle.pair.specs.Across.{Crossed}
 use Rattle.ring.specs.Ring.{broken}
 use Rattle.ring.proofs.ring.Statement.{statement}
 use Rattle.ring.proofs.ring.Tie as tie
 
 abbrev Inv-loop : tie.InvT-loop
-Inv-loop corners begins home last back across n v₀ v = (v ≤ n) × None (broken corners begins) v
+Inv-loop corners begins edges heads n v₀ v = (v ≤ n) × None (broken corners begins) v × Crossed corners begins edges heads × (n ≤ mostVertices)
 
 abbrev μ-loop : tie.MeasureT-loop
-μ-loop corners begins home last back across n v₀ v = n - v
-
-broken-requires : tie.Need-broken-requires Inv-loop μ-loop
-broken-requires c κs = let s = c .before .before .before .before in (s .pre .0, s .pre .1, omega (arith, s .pre .2))
+μ-loop corners begins edges heads n v₀ v = n - v
 
 returns : tie.Need-returns Inv-loop μ-loop
-returns c = hit (λ v. At v 0) Nothing (c .before .before .before .loop .inv .1) (rw (← c .before .broken .ensures) (c .if1 .taken)) (omega arith)
+returns c =
+    let b = c .before in
+    let (upto, none, crossed, few) = b .before .before .loop .inv in
+    hit (λ v. At v 0) Nothing none (rw (← b .broken .ensures) (c .if1 .taken)) (omega arith)
 
 loop-again : tie.Need-loop-again Inv-loop μ-loop
-loop-again c = (omega arith, none-more (c .before .before .before .loop .inv .1) (rw (← c .before .broken .ensures) (c .if1 .left)))
+loop-again c =
+    let b = c .before in
+    let (upto, none, crossed, few) = b .before .before .loop .inv in
+    (omega arith, none-more none (rw (← b .broken .ensures) (c .if1 .left)), crossed, few)
 
 pub ring-spec : {M : Type 1} → statement M
 ring-spec =
@@ -28,10 +33,10 @@ ring-spec =
     (tie.spec
     Inv-loop
     μ-loop
-    (λ c. (omega arith, none-0 _))
-    broken-requires
+    (λ c. let (crossed, few) = c .before .before .pre in (omega arith, none-0 _, crossed, few))
+    (λ c κs. let (upto, none, crossed, few) = c .before .loop .inv in (crossed, omega arith))
     returns
     (λ c. omega arith)
     (λ c. omega arith)
     loop-again
-    (λ c. miss (λ v. At v 0) Nothing (c .before .loop .inv .1) (omega arith) (omega arith)))
+    (λ c. let (upto, none, crossed, few) = c .before .loop .inv in miss (λ v. At v 0) Nothing none (omega arith) (omega arith)))

@@ -1,26 +1,16 @@
--- `sides::difference` meets its contract. Both coordinates are within 8191, so the difference fits. Assumes nothing.
+-- `sides::difference` meets its contract. Assumes nothing.
 use borrow.Author.Needs.{needs}
-use mathlib.Core.Path.{_∙_, ap₂}
-use mathlib.Core.List.{[], _∷_}
-use native.Mathlib.Omega.{arith}
-use lib.IntN.{_-ℤ_}
-use mir.Syntax.{w64}
-use Rattle.whole.specs.Solver.{var, _⊖_}
-use Rattle.whole.specs.Machine.{Small, same, fits, reads, reads-within}
+use Rattle.points.specs.Range.{difference-fits, difference-is}
 use Rattle.sides.specs.Sides.{differenceOf}
 use Rattle.sides.proofs.difference.Statement.{statement}
 use Rattle.sides.proofs.difference.Tie as tie
 
 sub-result : tie.Need-sub-result
-sub-result c =
-    let s : Small (c .before .wide-coord .result ∷ c .wide-coord2 .result ∷ []) (same 2 8191) = omega arith in
-    fits w64 s (var 0 ⊖ var 1) tt 0
+sub-result c = difference-fits (c .before .wide-coord .ensures) (c .wide-coord2 .ensures)
 
 returns : tie.Need-returns
 unfolding differenceOf
-returns c =
-    let s : Small (c .before .wide-coord .result ∷ c .wide-coord2 .result ∷ []) (same 2 8191) = omega arith in
-    (reads w64 s (var 0 ⊖ var 1) tt ∙ ap₂ _-ℤ_ (c .before .wide-coord .ensures .0) (c .wide-coord2 .ensures .0), reads-within w64 s (var 0 ⊖ var 1) tt)
+returns c = difference-is (c .before .wide-coord .ensures) (c .wide-coord2 .ensures)
 
 pub difference-spec : {M : Type 1} → statement M
 difference-spec =

@@ -10,7 +10,8 @@ returns : tie.Need-returns
 unfolding differenceOf _-_
 returns c =
     let d = c .before .determinant in
-    rw (c .is-above .ensures, toZ-ofZ (sfits-of (d .ok)), d .ensures, c .before .before .before .row .ensures .0, c .before .before .row2 .ensures .0)
+    let r = c .before .before in
+    rw (c .is-above .ensures, toZ-ofZ (sfits-of (d .ok)), d .ensures, r .before .row .ensures .is, r .row2 .ensures .is)
 
 pub is-left-spec : {M : Type 1} → statement M
 is-left-spec =

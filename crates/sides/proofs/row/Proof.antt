@@ -1,20 +1,17 @@
 -- `sides::row` meets its contract. Each difference is small, so it is held as it is. Assumes nothing.
 use borrow.Author.Needs.{needs}
-use mathlib.Core.List.{[], _∷_}
 use mir.Syntax.{w64}
-use Rattle.whole.specs.Machine.{handed, read-within}
-use Rattle.space.specs.Rows.{row-of}
+use Rattle.whole.specs.Machine.{exact-read}
+use Rattle.space.specs.Rows.{exact-row}
 use Rattle.sides.proofs.row.Statement.{statement}
 use Rattle.sides.proofs.row.Tie as tie
 
 returns : tie.Need-returns
 returns c =
-    let x = c .before .before .difference .ensures in
-    let y = c .before .difference2 .ensures in
-    let z = c .difference3 .ensures in (
-      (λ i. handed w64 x tt i ∷ handed w64 y tt i ∷ handed w64 z tt i ∷ []),
-      row-of (read-within w64 (x .1) tt) (read-within w64 (y .1) tt) (read-within w64 (z .1) tt),
-    )
+    let x = exact-read w64 (c .before .before .difference .ensures) tt in
+    let y = exact-read w64 (c .before .difference2 .ensures) tt in
+    let z = exact-read w64 (c .difference3 .ensures) tt in
+    exact-row x y z
 
 pub row-spec : {M : Type 1} → statement M
 row-spec =

@@ -8,13 +8,26 @@ use Rattle.sides.proofs.side_of.Statement.{statement}
 use Rattle.sides.proofs.side_of.Tie as tie
 
 determinant-requires : tie.Need-determinant-requires
-determinant-requires c κs = record { first = row-wide (c .before .before .row .ensures .1); second = c .before .row2 .ensures .1; third = c .row3 .ensures .1 }
+determinant-requires c κs =
+    record {
+      first = row-wide (c .before .before .row .ensures .small);
+      second = c .before .row2 .ensures .small;
+      third = c .row3 .ensures .small;
+    }
 
 returns : tie.Need-returns
 unfolding differenceOf _-_
 returns c =
     let r = c .before .before in
-    rw (c .sign .ensures, toZ-ofZ (sfits-of (c .before .determinant .ok)), c .before .determinant .ensures, r .before .before .row .ensures .0, r .before .row2 .ensures .0, r .row3 .ensures .0)
+    let d = c .before .determinant in
+    rw (
+      c .sign .ensures,
+      toZ-ofZ (sfits-of (d .ok)),
+      d .ensures,
+      r .before .before .row .ensures .is,
+      r .before .row2 .ensures .is,
+      r .row3 .ensures .is,
+    )
 
 pub side-of-spec : {M : Type 1} → statement M
 side-of-spec =

@@ -9,7 +9,8 @@ returns c = rw (← toZ-ofZ (c .before .before .fits .x), ← (c .before .is-bel
 
 returns-2 : tie.Need-returns-2
 returns-2 c =
-    rw (← toZ-ofZ (c .before .before .before .fits .x), ← (c .before .before .is-below .ensures), c .before .if1 .left, ← (c .is-above .ensures))
+    let b = c .before .before in
+    rw (← toZ-ofZ (b .before .fits .x), ← (b .is-below .ensures), c .before .if1 .left, ← (c .is-above .ensures))
 
 pub is-zero-spec : {M : Type 1} → statement M
 is-zero-spec = tie.close (tie.spec (λ c κs. search needs) returns (λ c κs. search needs) returns-2)

@@ -3,44 +3,52 @@ use borrow.Author.Needs.{needs}
 use mathlib.Core.Path.{_≡_, sym, _∙_}
 use mathlib.Core.Bool.{Bool}
 use native.Mathlib.Omega.{arith}
-use Prim.Native.Nat.{_-_, _≤_}
+use Prim.Native.Nat.{_-_}
 use lib.ListN.{length}
-use Rattle.whole.specs.First.{None, none-0, none-more, found, none}
-use Rattle.turn.specs.Rules.{isTurn}
+use Rattle.whole.specs.First.{yet-0, yet-more, yet-hit, yet-end}
+use Rattle.flat.specs.Facet.{first-three}
+use Rattle.turn.specs.Rules.{isTurn, Unturned}
 use Rattle.turn.proofs.first_turn.Statement.{statement}
 use Rattle.turn.proofs.first_turn.Tie as tie
 
 abbrev Inv-loop : tie.InvT-loop
-Inv-loop points part n p₀ p = (p ≤ length part) × None (isTurn points part) p
+Inv-loop points part n p₀ p = Unturned points part n p
 
 abbrev μ-loop : tie.MeasureT-loop
 μ-loop points part n p₀ p = length part - p
 
 normal-requires : tie.Need-normal-requires Inv-loop μ-loop
-normal-requires c κs =
-    let f = c .before .before .before .before .pre in
-    let n = f .named in
-    (f .ranged, (n 0 (omega (arith, f .some)), n 1 (omega (arith, f .some)), n 2 (omega (arith, f .some))))
+normal-requires c κs = first-three (c .before .before .before .before .pre)
+
+loop-holds : tie.Need-loop-holds Inv-loop μ-loop
+loop-holds c =
+    let s = c .before .before .before in
+    record { facet = s .before .before .pre; normal = c .normal .ensures; yet = yet-0 }
 
 some-stray-requires : tie.Need-some-stray-requires Inv-loop μ-loop
 some-stray-requires c κs =
-    let l = c .before .before .before .before in
-    let s = l .before .before .before .before .before .before in
-    (s .pre, l .before .normal .ensures .1, s .pre .named (l .loop .p) (omega arith), s .pre .named (c .before .before .next-position .result) (omega arith))
+    let o = c .before .before in
+    let l = o .before .before .loop in
+    let f = l .inv .facet in
+    (f, l .inv .normal .small, f .named (l .p) (omega arith), f .named (o .next-position .result) (omega arith))
 
 returns : tie.Need-returns Inv-loop μ-loop
 unfolding isTurn
 returns c =
-    let l = c .before .before .before .before .before .before in
-    let e = rw (c .before .before .before .before .next-position .ensures .0, l .before .normal .ensures .0) at (c .before .some-stray .ensures) in
-    found (l .loop .inv .1) (sym e ∙ c .if1 .taken) (omega arith)
+    let o = c .before .before .before .before in
+    let i = o .before .before .loop .inv in
+    let (on, _) = o .next-position .ensures in
+    let e = rw (on, i .normal .is) at (c .before .some-stray .ensures) in
+    yet-hit (i .yet) (sym e ∙ c .if1 .taken) (omega arith)
 
 loop-again : tie.Need-loop-again Inv-loop μ-loop
 unfolding isTurn
 loop-again c =
-    let l = c .before .before .before .before .before .before in
-    let e = rw (c .before .before .before .before .next-position .ensures .0, l .before .normal .ensures .0) at (c .before .some-stray .ensures) in
-    (omega arith, none-more (l .loop .inv .1) (sym e ∙ c .if1 .left))
+    let o = c .before .before .before .before in
+    let i = o .before .before .loop .inv in
+    let (on, _) = o .next-position .ensures in
+    let e = rw (on, i .normal .is) at (c .before .some-stray .ensures) in
+    record { facet = i .facet; normal = i .normal; yet = yet-more (i .yet) (sym e ∙ c .if1 .left) (omega arith) }
 
 pub first-turn-spec : {M : Type 1} → statement M
 first-turn-spec =
@@ -52,7 +60,7 @@ first-turn-spec =
     (λ c. search needs)
     (λ c. search needs)
     normal-requires
-    (λ c. (omega arith, none-0 _))
+    loop-holds
     (λ c κs. search needs)
     (λ c. search needs)
     (λ c. search needs)
@@ -63,4 +71,4 @@ first-turn-spec =
     (λ c. omega arith)
     (λ c. omega arith)
     loop-again
-    (λ c. none (c .before .loop .inv .1) (omega arith) (omega arith)))
+    (λ c. yet-end (c .before .loop .inv .yet) (omega arith)))

@@ -2,15 +2,15 @@
 use borrow.Author.Needs.{needs}
 use mathlib.Core.Path.{sym, _∙_}
 use native.Mathlib.Omega.{arith}
-use Prim.Native.Nat.{_-_, _≤_}
+use Prim.Native.Nat.{_-_}
 use lib.ListN.{length, getD}
-use Rattle.whole.specs.First.{None, none-0, none-more, any-hit, any-miss}
+use Rattle.whole.specs.First.{NoneYet, yet-0, yet-more, any-hit, any-miss}
 use Rattle.turn.specs.Rules.{strays}
 use Rattle.turn.proofs.some_stray.Statement.{statement}
 use Rattle.turn.proofs.some_stray.Tie as tie
 
 abbrev Inv-loop : tie.InvT-loop
-Inv-loop points part n a b q₀ q = (q ≤ length part) × None (λ q. strays points n a b (getD part q 0)) q
+Inv-loop points part n a b q₀ q = NoneYet (λ q. strays points n a b (getD part q 0)) (length part) q
 
 abbrev μ-loop : tie.MeasureT-loop
 μ-loop points part n a b q₀ q = length part - q
@@ -19,7 +19,17 @@ strays-requires : tie.Need-strays-requires Inv-loop μ-loop
 strays-requires c κs =
     let l = c .before .before in
     let (f, r, a, b) = l .before .before .pre in
-    ((f .ranged, r), (a, b, f .named (l .loop .q) (omega arith)))
+    (record { ranged = f .ranged; first = a; second = b; third = f .named (l .loop .q) (omega arith) }, r)
+
+returns : tie.Need-returns Inv-loop μ-loop
+returns c =
+    let s = c .before in
+    any-hit (s .before .before .before .loop .inv .none) (sym (s .strays .ensures) ∙ c .if1 .taken) (omega arith)
+
+loop-again : tie.Need-loop-again Inv-loop μ-loop
+loop-again c =
+    let s = c .before in
+    yet-more (s .before .before .before .loop .inv) (sym (s .strays .ensures) ∙ c .if1 .left) (omega arith)
 
 pub some-stray-spec : {M : Type 1} → statement M
 some-stray-spec =
@@ -27,12 +37,12 @@ some-stray-spec =
     (tie.spec
     Inv-loop
     μ-loop
-    (λ c. (omega arith, none-0 _))
+    (λ c. yet-0)
     (λ c. search needs)
     (λ c. search needs)
     strays-requires
-    (λ c. any-hit (c .before .before .before .before .loop .inv .1) (sym (c .before .strays .ensures) ∙ c .if1 .taken) (omega arith))
+    returns
     (λ c. omega arith)
     (λ c. omega arith)
-    (λ c. (omega arith, none-more (c .before .before .before .before .loop .inv .1) (sym (c .before .strays .ensures) ∙ c .if1 .left)))
-    (λ c. any-miss (c .before .loop .inv .1) (omega arith) (omega arith)))
+    loop-again
+    (λ c. any-miss (c .before .loop .inv .none) (omega arith) (omega arith)))

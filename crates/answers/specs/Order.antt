@@ -1,0 +1,221 @@
+-- "The lowest number that applies anywhere in the tables wins. Within it, the first place wins": the order of the rules as one list. Assumes nothing.
+use mathlib.Core.Path.{_≡_, refl, sym, ap, _∙_}
+use mathlib.Core.Bool.{Bool, true, false, cond, true≢false}
+use mathlib.Core.List.{List, [], _∷_, _++_}
+use Prim.Native.Nat.{ℕ, zero, suc, _+_, _<_}
+use native.Mathlib.Omega.{arith}
+use native.Mathlib.Decide.{decLt}
+use lib.Dec.{ltb}
+use lib.ListN.{length}
+use borrow.Author.Tests.{ltb-true}
+use Rattle.tables.specs.Found.{lowest, firstPlace, Lowest, First, Nowhere, NoPlace, Searched, Sought, found-at, found-none, place-at, place-none}
+use Rattle.tables.specs.Found.{searched, sought, lowest-is, nowhere-is, first-is, no-place-is}
+use Rattle.tables.specs.declared.Found.{Found}
+use Rattle.tables.specs.declared.Found.the-variants.{At, Nothing}
+use Rattle.answers.specs.Answer.{numberOf}
+use Rattle.answers.specs.declared.Fault.{Fault}
+use Rattle.answers.specs.declared.Fault.the-variants.{Breaks, None}
+
+-- ---- where a rule is looked for
+
+-- in the tables as a whole; at each of n vertices or facets; at each of the so many positions or vertices of n facets
+pub data Search : Type 0 where
+  whole : Bool → Search
+  each : ℕ → (ℕ → Bool) → Search
+  within : ℕ → (ℕ → ℕ) → (ℕ → ℕ → Bool) → Search
+
+-- "Within it, the first place wins: lowest vertex, or lowest facet and then lowest position or vertex."
+abbrev pub place : Search → Found
+place (whole test) = cond test (At 0 0) Nothing
+place (each n test) = lowest n test
+place (within n counts test) = firstPlace n counts test
+
+-- what it means that a rule applies first at a place ..
+abbrev pub FirstAt : Search → ℕ → ℕ → Type 0
+FirstAt (whole test) a b = (test ≡ true) × ((a ≡ 0) × (b ≡ 0))
+FirstAt (each n test) a b = Lowest n test a × (b ≡ 0)
+FirstAt (within n counts test) a b = First n counts test a b
+
+-- .. and that it applies nowhere
+abbrev pub Never : Search → Type 0
+Never (whole test) = test ≡ false
+Never (each n test) = Nowhere n test
+Never (within n counts test) = NoPlace n counts test
+
+differ : {a b : ℕ} → _≡_ {A = Found} (At a b) Nothing → ⊥
+differ e = let z : _≡_ {A = ℕ} 0 1 = cc in omega arith
+
+pub first-at : (s : Search) {a b : ℕ} → place s ≡ At a b → FirstAt s a b
+first-at (whole true) e = (refl, (cc, cc))
+first-at (whole false) e = absurd (differ (sym e))
+first-at (each n test) e = go (searched n test) e
+  where
+    go : {r : Found} {a b : ℕ} → Searched n test r → r ≡ At a b → Lowest n test a × (b ≡ 0)
+    go {a = a} (found-at {v} h) e = let s : v ≡ a = cc in (rw (← s) h, cc)
+    go (found-none h) e = absurd (differ (sym e))
+first-at (within n counts test) e = go (sought n counts test) e
+  where
+    go : {r : Found} {a b : ℕ} → Sought n counts test r → r ≡ At a b → First n counts test a b
+    go {a = a} {b = b} (place-at {f} {p} h) e = let s : f ≡ a = cc in let t : p ≡ b = cc in rw (← s, ← t) h
+    go (place-none h) e = absurd (differ (sym e))
+
+pub at-first : (s : Search) {a b : ℕ} → FirstAt s a b → place s ≡ At a b
+at-first (whole test) (t, (x, y)) = rw (t, x, y)
+at-first (each n test) (h, y) = rw y (lowest-is h)
+at-first (within n counts test) h = first-is h
+
+pub never : (s : Search) → place s ≡ Nothing → Never s
+never (whole true) e = absurd (differ e)
+never (whole false) e = refl
+never (each n test) e = go (searched n test) e
+  where
+    go : {r : Found} → Searched n test r → r ≡ Nothing → Nowhere n test
+    go (found-at h) e = absurd (differ e)
+    go (found-none h) e = h
+never (within n counts test) e = go (sought n counts test) e
+  where
+    go : {r : Found} → Sought n counts test r → r ≡ Nothing → NoPlace n counts test
+    go (place-at h) e = absurd (differ e)
+    go (place-none h) e = h
+
+pub nothing : (s : Search) → Never s → place s ≡ Nothing
+nothing (whole test) h = rw h
+nothing (each n test) h = nowhere-is h
+nothing (within n counts test) h = no-place-is h
+
+-- ---- the order
+
+-- a rule's number, and where it is looked for in these tables
+pub record Rule : Type 0 where
+  pub number : ℕ
+  pub search : Search
+
+abbrev pub rule : ℕ → Search → Rule
+rule number search = record { number = number; search = search }
+
+-- a number at its first place, or the fault of the rules after it
+abbrev pub orElse : ℕ → Found → Fault → Fault
+orElse number (At first second) later = Breaks number first second
+orElse number Nothing later = later
+
+-- "The lowest number that applies anywhere"
+unfoldable pub firstOf : List Rule → Fault
+firstOf [] = None
+firstOf (r ∷ rs) = orElse (r .number) (place (r .search)) (firstOf rs)
+
+-- each fault is a rule's that applies, first at its place, where none before it applies anywhere ..
+pub data Given : List Rule → Fault → Type 0 where
+  here : {r : Rule} {rs : List Rule} {a b : ℕ} → FirstAt (r .search) a b → Given (r ∷ rs) (Breaks (r .number) a b)
+  after : {r : Rule} {rs : List Rule} {x : Fault} → Never (r .search) → Given rs x → Given (r ∷ rs) x
+  none : Given [] None
+
+pub given : (rs : List Rule) → Given rs (firstOf rs)
+unfolding firstOf
+given [] = none
+given (r ∷ rs) = go (given rs) (place (r .search)) refl
+  where
+    go : {x : Fault} → Given rs x → (p : Found) → place (r .search) ≡ p → Given (r ∷ rs) (orElse (r .number) p x)
+    go g (At a b) e = here (first-at (r .search) e)
+    go g Nothing e = after (never (r .search) e) g
+
+-- .. and no other is
+pub given-is : {rs : List Rule} {x : Fault} → Given rs x → x ≡ firstOf rs
+unfolding firstOf
+given-is (here {r} {rs} h) = ap (λ p. orElse (r .number) p (firstOf rs)) (sym (at-first (r .search) h))
+given-is (after {r} {rs} h g) = given-is g ∙ ap (λ p. orElse (r .number) p (firstOf rs)) (sym (nothing (r .search) h))
+given-is none = refl
+
+-- ---- what is known on the way
+
+-- where rule number i of the list, from 0, applies first
+abbrev pub placeAt : List Rule → ℕ → Found
+placeAt [] i = Nothing
+placeAt (r ∷ rs) zero = place (r .search)
+placeAt (r ∷ rs) (suc i) = placeAt rs i
+
+-- the first n rules apply nowhere
+pub record Passes (rs : List Rule) (n : ℕ) : Type 0 where
+  pub none : (i : ℕ) → i < n → placeAt rs i ≡ Nothing
+
+pub passes-0 : {rs : List Rule} → Passes rs 0
+passes-0 = record { none = λ i l. absurd (omega arith) }
+
+pub passes-more : {rs : List Rule} {n : ℕ} → Passes rs n → placeAt rs n ≡ Nothing → Passes rs (n + 1)
+passes-more {rs} {n} P e = record { none = λ i l. elim (decLt i n) [
+  | yes b ↦ P .none i b
+  | no b ↦ let s : i ≡ n = omega arith in rw s e
+] }
+
+rest : {r : Rule} {rs : List Rule} {n : ℕ} → Passes (r ∷ rs) (suc n) → Passes rs n
+rest P = record { none = λ i l. P .none (suc i) (omega arith) }
+
+-- no rule of the list applies
+pub all-pass : (rs : List Rule) → firstOf rs ≡ None → Passes rs (length rs)
+unfolding firstOf
+all-pass [] e = passes-0
+all-pass (r ∷ rs) e = go (all-pass rs) (place (r .search)) refl e
+  where
+    join : place (r .search) ≡ Nothing → Passes rs (length rs) → (i : ℕ) → i < suc (length rs) → placeAt (r ∷ rs) i ≡ Nothing
+    join s P zero l = s
+    join s P (suc i) l = P .none i (omega arith)
+
+    go : (firstOf rs ≡ None → Passes rs (length rs)) → (p : Found) → place (r .search) ≡ p → orElse (r .number) p (firstOf rs) ≡ None
+        → Passes (r ∷ rs) (suc (length rs))
+    go h (At a b) s e = let z : _≡_ {A = ℕ} 0 1 = cc in absurd (omega arith)
+    go h Nothing s e = record { none = join s (h e) }
+
+abbrev pub numberAt : List Rule → ℕ → ℕ
+numberAt [] i = 0
+numberAt (r ∷ rs) zero = r .number
+numberAt (r ∷ rs) (suc i) = numberAt rs i
+
+-- the first n rules apply nowhere, and the next one does
+pub first-here : (rs : List Rule) (n : ℕ) {a b : ℕ} → Passes rs n → placeAt rs n ≡ At a b → Breaks (numberAt rs n) a b ≡ firstOf rs
+unfolding firstOf
+first-here [] n P e = absurd (differ (sym e))
+first-here (r ∷ rs) zero P e = rw e
+first-here (r ∷ rs) (suc n) P e = rw (P .none zero (omega arith)) (first-here rs n (rest P) e)
+
+pub none-later : (rs : List Rule) → Passes rs (length rs) → firstOf rs ≡ None
+unfolding firstOf
+none-later [] P = refl
+none-later (r ∷ rs) P = rw (P .none zero (omega arith)) (none-later rs (rest P))
+
+-- ---- a list that goes on
+
+place-append : (rs qs : List Rule) (i : ℕ) → i < length rs → placeAt (rs ++ qs) i ≡ placeAt rs i
+place-append [] qs i l = absurd (omega arith)
+place-append (r ∷ rs) qs zero l = refl
+place-append (r ∷ rs) qs (suc i) l = place-append rs qs i (omega arith)
+
+pub passes-append : (rs qs : List Rule) → Passes rs (length rs) → Passes (rs ++ qs) (length rs)
+passes-append rs qs P = record { none = λ i l. place-append rs qs i l ∙ P .none i l }
+
+-- a fault of its beginning is a fault of the whole
+pub first-append : (rs qs : List Rule) {number first second : ℕ} → firstOf rs ≡ Breaks number first second → firstOf (rs ++ qs) ≡ Breaks number first second
+unfolding firstOf
+first-append [] qs e = let z : _≡_ {A = ℕ} 0 1 = cc in absurd (omega arith)
+first-append (r ∷ rs) qs e = go (λ h. first-append rs qs h) (place (r .search)) e
+  where
+    go : {x : Fault} → (firstOf rs ≡ x → firstOf (rs ++ qs) ≡ x) → (p : Found) → orElse (r .number) p (firstOf rs) ≡ x
+        → orElse (r .number) p (firstOf (rs ++ qs)) ≡ x
+    go h (At a b) e = e
+    go h Nothing e = h e
+
+-- ---- numbers above 0
+
+unfoldable pub numbered : List Rule → Bool
+numbered [] = true
+numbered (r ∷ rs) = cond (ltb 0 (r .number)) (numbered rs) false
+
+-- so the number 0 says that none applies
+pub number-0 : (rs : List Rule) → numbered rs ≡ true → numberOf (firstOf rs) ≡ 0 → firstOf rs ≡ None
+unfolding firstOf numbered
+number-0 [] n e = refl
+number-0 (r ∷ rs) n e = go (number-0 rs) (place (r .search)) (ltb 0 (r .number)) refl n e
+  where
+    go : (numbered rs ≡ true → numberOf (firstOf rs) ≡ 0 → firstOf rs ≡ None) → (p : Found) (t : Bool) → ltb 0 (r .number) ≡ t
+        → cond t (numbered rs) false ≡ true → numberOf (orElse (r .number) p (firstOf rs)) ≡ 0 → orElse (r .number) p (firstOf rs) ≡ None
+    go h p false s n e = absurd (true≢false (sym n))
+    go h (At a b) true s n e = absurd (omega (arith, ltb-true 0 (r .number) s))
+    go h Nothing true s n e = h n e

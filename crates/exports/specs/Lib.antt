@@ -1,2 +1,0 @@
--- The functions for Rust and C: numbers and slices only.
-pub mod Out

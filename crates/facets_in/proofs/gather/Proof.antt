@@ -1,0 +1,42 @@
+-- `facets_in::gather` meets its contract. Assumes nothing.
+use mathlib.Core.Path.{ap}
+use mathlib.Core.List.{[], _∷_}
+use Prim.Native.Nat.{ℕ, _+_, _-_, _*_}
+use native.Mathlib.Omega.{arith}
+use lib.Seq.{sets}
+use Rattle.whole.specs.Joined.{length-listed}
+use Rattle.tape.specs.Little.{unsignedAt}
+use Rattle.tape.specs.Turns.{Turn, turn-0, turn-more, turn-all}
+use Rattle.facets_in.proofs.gather.Statement.{statement}
+use Rattle.facets_in.proofs.gather.Tie as tie
+
+abbrev Inv-loop : tie.InvT-loop
+Inv-loop tray₀ tape i n k₀ tray k = Turn (λ k. unsignedAt tape (i + 2 * k) ∷ []) n tray₀ tray k
+
+abbrev μ-loop : tie.MeasureT-loop
+μ-loop tray₀ tape i n k₀ tray k = n - k
+
+loop-again : tie.Need-loop-again Inv-loop μ-loop
+loop-again c =
+    let l = c .before .before in
+    let k = l .loop .k in
+    let e = ap (λ (x : ℕ). sets (l .loop .tray) k (x ∷ [])) (c .unsigned-at .ensures) in
+    turn-more (l .loop .inv) k (omega arith) e (length-listed _ k) (omega arith)
+
+pub gather-spec : {M : Type 1} → statement M
+gather-spec =
+    tie.close
+    (tie.spec
+    Inv-loop
+    μ-loop
+    (λ c. turn-0 _)
+    (λ c. omega arith)
+    (λ c. omega arith)
+    (λ c κs. omega arith)
+    (λ c. omega arith)
+    (λ c. omega arith)
+    (λ c. omega arith)
+    (λ c. omega arith)
+    loop-again
+    (λ c. c .before .loop .inv .so-far .long)
+    (λ c. turn-all (c .before .loop .inv) (omega arith)))

@@ -1,0 +1,2 @@
+-- The lent tables while facets are stored into them.
+pub mod Filling

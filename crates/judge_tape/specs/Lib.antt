@@ -1,0 +1,2 @@
+-- The judging program's work: a tape read, then judged.
+pub mod Tape

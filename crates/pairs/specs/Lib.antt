@@ -1,0 +1,2 @@
+-- The neighbours of an outline's points.
+pub mod Neighbour

@@ -1,0 +1,2 @@
+-- What the cross product of two rows of three promises.
+pub mod Cross

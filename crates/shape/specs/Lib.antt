@@ -1,0 +1,3 @@
+-- What it means that BENT, TURN and REFLEX find nothing.
+pub mod Flat
+pub mod Folds

@@ -1,0 +1,2 @@
+-- Tables written as records.
+pub mod Records

@@ -1,0 +1,2 @@
+-- The walk program's work: a tape read, then walked.
+pub mod Tape

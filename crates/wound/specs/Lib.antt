@@ -1,0 +1,2 @@
+-- The loop that looks for the second far point.
+pub mod Seen
