@@ -28,6 +28,12 @@ pub record Climbs (points : List ℤ) (corners begins : List ℕ) (edges : List 
   pub begun : s ≡ begin points (s .direction) (s .spot .vertex)
   pub room : vertices points ≤ length trail
 
+-- a walk that begins has made no move
+pub climbs : {points : List ℤ} {corners begins : List ℕ} {edges : List (List ℕ)} {heads : List ℕ} {d : Direction} {start : ℕ} {s : Standing} {trail : List ℕ}
+    → s ≡ begin points d start → Measured points corners begins → Leaving corners begins edges heads → Permitted d → Vertex points start
+    → vertices points ≤ length trail → Climbs points corners begins edges heads s trail
+climbs e m l p v r = rw e (record { measured = m; leaving = l; permitted = p; vertex = v; begun = refl; room = r })
+
 -- what it leaves: the walk where it stops, and the trail
 pub record Climbed (points : List ℤ) (corners begins : List ℕ) (s : Standing) (trail : List ℕ) (r : Standing) (t : List ℕ) : Type 0 where
   pub last : r ≡ finish points corners begins (s .direction) (s .spot .vertex)
@@ -94,7 +100,8 @@ pub climbed : {points : List ℤ} {corners begins : List ℕ} {s r : Standing} {
     → Climbed points corners begins s (set lent 0 x) r t → Climbed points corners begins s lent r t
 climbed {points} {corners} {begins} {s} {lent = lent} x C =
     let n = finish points corners begins (s .direction) (s .spot .vertex) .moves + 1 in
-    record { last = C .last; lists = C .lists ∙ rw (drop-set-lt n lent 0 x (omega arith)) }
+    let listed = stood points corners begins (s .direction) (s .spot .vertex) n in
+    record { last = C .last; lists = C .lists ∙ ap (λ rest. listed ++ rest) (drop-set-lt n lent 0 x (omega arith)) }
 
 module _ {points : List ℤ} {corners begins : List ℕ} {edges : List (List ℕ)} {heads : List ℕ} {s : Standing} {lent trail : List ℕ}
     {here next : Standing} {k : ℕ} (K : Climbing points corners begins edges heads s lent trail here next k) where

@@ -13,7 +13,7 @@ use Rattle.points.specs.Points.{coordOf}
 use Rattle.sides.specs.Sides.{differenceOf}
 use Rattle.tables.specs.Tables.{homeOf, nextOf}
 use Rattle.tables.specs.Size.{isSize}
-use Rattle.answers.specs.Answer.{refused}
+use Rattle.answers.specs.Answer.{fault, refused, passed}
 use Rattle.edges.specs.Edge.{acrossOf}
 use Rattle.ring.specs.Step.{roundOf}
 use Rattle.apart.specs.Apart.{flooded}
@@ -44,7 +44,7 @@ abbrev lent : List ℕ
 lent = 9 ∷ 9 ∷ 9 ∷ 9 ∷ 9 ∷ []
 
 abbrev to : ℕ → ℤ → ℕ → Walked
-to v z n = record { answer = refused 0 0 0; vertex = v; height = z; moves = n }
+to v z n = record { answer = passed; vertex = v; height = z; moves = n }
 
 -- a walk on T with its last facet as here, its answer, and the trail after it
 pub record Case (last : List ℕ) (d : Direction) (start : ℕ) (trail : List ℕ) (r : Walked) (t : List ℕ) : Type 0 where
@@ -62,12 +62,12 @@ pub record Cases : Type 0 where
   -- "L. T, direction 0,0,-1, start 3: vertex 0, height 0, 1 move, trail 3, 0."
   pub L : Case T (direction (pos 0) (pos 0) (negsuc 0)) 3 lent (to 0 (pos 0) 1) (3 ∷ 0 ∷ 9 ∷ 9 ∷ 9 ∷ [])
   -- "1 to 12 as the judge gives": case G, before a start that there isn't
-  pub judge-first : Case (1 ∷ 3 ∷ 2 ∷ []) (direction (pos 1) (pos 1) (pos 1)) 4 lent (halted (refused 6 0 1)) lent
+  pub judge-first : Case (1 ∷ 3 ∷ 2 ∷ []) (direction (pos 1) (pos 1) (pos 1)) 4 lent (halted (fault 6 0 1)) lent
   -- 13 before 14, 14 before 15
-  pub start-first : Case T (direction (pos 32768) (pos 0) (pos 0)) 4 lent (halted (refused 13 0 0)) lent
-  pub direction-first : Case T (direction (pos 0) (pos 0) (negsuc 32767)) 3 [] (halted (refused 14 0 0)) []
+  pub start-first : Case T (direction (pos 32768) (pos 0) (pos 0)) 4 lent (halted (refused 13)) lent
+  pub direction-first : Case T (direction (pos 0) (pos 0) (negsuc 32767)) 3 [] (halted (refused 14)) []
   -- 15 with one entry fewer than V, though the walk needs but two
-  pub short-trail : Case T (direction (pos 1) (pos 1) (pos 1)) 0 (9 ∷ 9 ∷ 9 ∷ []) (halted (refused 15 0 0)) (9 ∷ 9 ∷ 9 ∷ [])
+  pub short-trail : Case T (direction (pos 1) (pos 1) (pos 1)) 0 (9 ∷ 9 ∷ 9 ∷ []) (halted (refused 15)) (9 ∷ 9 ∷ 9 ∷ [])
   -- parts at their limits are permitted, and V entries are room
   pub limits : Case T (direction (pos 32767) (negsuc 32766) (pos 0)) 2 (9 ∷ 9 ∷ 9 ∷ 9 ∷ []) (to 1 (pos 32767) 1) (2 ∷ 1 ∷ 9 ∷ 9 ∷ [])
 

@@ -12,7 +12,7 @@ use lib.ListN.{length, getD, drop, length-append, length-drop, List·getD-append
 use lib.Seq.{getD-append-add, getD-drop}
 use Rattle.whole.specs.Order.{eq→le, <-trans, clash}
 use Rattle.points.specs.Points.{vertices}
-use Rattle.answers.specs.Answer.{refused}
+use Rattle.answers.specs.Answer.{passed}
 use Rattle.flat.specs.Facet.{Measured}
 use Rattle.solid.specs.Tables.{Edge}
 use Rattle.solid.specs.Places.{next-place}
@@ -33,7 +33,7 @@ use Rattle.walk.specs.declared.Walked.{Walked}
 module _ (points : List ℤ) (corners begins : List ℕ) (d : Direction) (start : ℕ) (trail : List ℕ) where
   -- r is the answer, and t what the trail then holds
   pub record Demand3 (r : Walked) (t : List ℕ) : Type 0 where
-    pub answered : r .answer ≡ refused 0 0 0
+    pub answered : r .answer ≡ passed
     pub from-start : getD t 0 0 ≡ start
     -- "the walk moves only along edges": some facet has the edge ..
     pub along : (i : ℕ) → i < r .moves → (f : ℕ) × Edge (tablesOf points corners begins) f (getD t i 0) (getD t (i + 1) 0)
@@ -67,7 +67,7 @@ module _ (points : List ℤ) (corners begins : List ℕ) (d : Direction) (start 
     t = stood points corners begins d start (k + 1) ++ drop (k + 1) trail
 
     abbrev r : Walked
-    r = record { answer = refused 0 0 0; vertex = walk k .spot .vertex; height = walk k .spot .height; moves = k }
+    r = record { answer = passed; vertex = walk k .spot .vertex; height = walk k .spot .height; moves = k }
 
     entry : (i : ℕ) → i ≤ k → getD t i 0 ≡ walk i .spot .vertex
     entry i l =
@@ -80,7 +80,8 @@ module _ (points : List ℤ) (corners begins : List ℕ) (d : Direction) (start 
         let n = stood-length points corners begins d start (k + 1) in
         let e : length (stood points corners begins d start (k + 1)) + (i - (k + 1)) ≡ i = omega arith in
         let f : k + 1 + (i - (k + 1)) ≡ i = omega arith in
-        rw e at (getD-append-add (stood points corners begins d start (k + 1)) (drop (k + 1) trail) (i - (k + 1)) 0) ∙ getD-drop (k + 1) trail (i - (k + 1)) 0 ∙ ap (λ j. getD trail j 0) f
+        rw e at (getD-append-add (stood points corners begins d start (k + 1)) (drop (k + 1) trail) (i - (k + 1)) 0)
+        ∙ getD-drop (k + 1) trail (i - (k + 1)) 0 ∙ ap (λ j. getD trail j 0) f
 
     -- two entries, one move apart
     step-to : (P : ℕ → ℕ → Type 0) (i : ℕ) → i < k → P (walk i .spot .vertex) (walk (suc i) .spot .vertex) → P (getD t i 0) (getD t (i + 1) 0)
@@ -98,14 +99,17 @@ module _ (points : List ℤ) (corners begins : List ℕ) (d : Direction) (start 
       m = is-measured points corners begins (G .accepted)
 
       top : (w : ℕ) → w < vertices points → height points d w ≤ℤ height points d (walk k .spot .vertex)
-      top = Solid.highest (sized-tables points (m .sound)) (is-convex points corners begins (G .accepted)) (way d) (walk k .spot .vertex) (E .going .placed .vertex) (λ f i p e.
-          E .stuck _ (sized-tables points (m .sound) .index (next-place (tablesOf points corners begins) p))
+      top =
+          let S = sized-tables points (m .sound) in
+          Solid.highest S (is-convex points corners begins (G .accepted)) (way d) (walk k .spot .vertex) (E .going .placed .vertex) (λ f i p e.
+          E .stuck _ (S .index (next-place (tablesOf points corners begins) p))
           (edge-neighbour points (m .sound .laid) _ _ (record { i = i; place = p; from = e; to = refl })))
 
       -- the answer and the trail are these
       answer-is : arrived (finish points corners begins d start) ≡ r
       answer-is =
-          ap arrived (E .last) ∙ ap (λ n. record { answer = refused 0 0 0; vertex = walk k .spot .vertex; height = walk k .spot .height; moves = n }) (E .going .moves)
+          let v = walk k .spot .vertex in
+          ap arrived (E .last) ∙ ap (λ n. record { answer = passed; vertex = v; height = walk k .spot .height; moves = n }) (E .going .moves)
 
       trail-is : trailed points corners begins d start trail ≡ t
       trail-is = ap (λ n. stood points corners begins d start (n + 1) ++ drop (n + 1) trail) (ap (λ s. s .moves) (E .last) ∙ E .going .moves)
@@ -115,7 +119,9 @@ module _ (points : List ℤ) (corners begins : List ℕ) (d : Direction) (start 
       met = record {
         answered = refl;
         from-start = entry 0 (omega arith);
-        along = λ i l. step-to (λ a b. (f : ℕ) × Edge (tablesOf points corners begins) f a b) i l (neighbour-edge points (m .sound .laid) _ _ (E .moves i l .chosen .highest .neighbour));
+        along = λ i l.
+            step-to (λ a b. (f : ℕ) × Edge (tablesOf points corners begins) f a b) i l
+            (neighbour-edge points (m .sound .laid) _ _ (E .moves i l .chosen .highest .neighbour));
         chosen = λ i l. step-to (Chosen points corners begins d) i l (E .moves i l .chosen);
         rising = λ i l. step-to (λ a b. height points d a <ℤ height points d b) i l (E .moves i l .up);
         few = omega (arith, E .going .left);
@@ -131,7 +137,8 @@ module _ (points : List ℤ) (corners begins : List ℕ) (d : Direction) (start 
         same-room = rw (length-append, stood-length points corners begins d start (k + 1), length-drop) (omega (arith, E .going .left, G .room));
       }
 
-  pub demand-3 : Granted points corners begins d start trail → Demand3 (walked points corners begins d start trail) (trailAfter points corners begins d start trail)
+  pub demand-3 : Granted points corners begins d start trail
+      → Demand3 (walked points corners begins d start trail) (trailAfter points corners begins d start trail)
   demand-3 G =
       let (k, E) = ends points corners begins d start (G .corner) in
       let (a, b) = told-is points corners begins d start trail (ARRIVED G) in

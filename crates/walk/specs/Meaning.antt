@@ -11,11 +11,16 @@ use lib.ListN.{length}
 use borrow.Author.Tests.{ne-eqb, le-leb, lt-leb, lt-ltb, le-ltb}
 use Rattle.points.specs.Points.{vertices}
 use Rattle.answers.specs.Answer.{refused}
+use Rattle.edges.specs.Index.{Indexed, leaves-each}
 use Rattle.judge.specs.Judge.{judged}
+use Rattle.accepts.specs.Meaning.{is-measured}
 use Rattle.direction.specs.Direction.{isWrong, Permitted, permitted, not-wrong, wrong-exactly}
+use Rattle.climb.specs.Step.{begin}
 use Rattle.climb.specs.Course.{finish, trailed}
+use Rattle.climb.specs.Climb.{Climbs, climbs, Climbed}
 use Rattle.walk.specs.Walk.{halted, arrived, fromStart, walked, trailAfter}
 use Rattle.direction.specs.declared.Direction.{Direction}
+use Rattle.climb.specs.declared.Standing.{Standing}
 use Rattle.walk.specs.declared.Walked.{Walked}
 
 module _ (points : List ℤ) (corners begins : List ℕ) (d : Direction) (start : ℕ) (trail : List ℕ) where
@@ -34,18 +39,18 @@ module _ (points : List ℤ) (corners begins : List ℕ) (d : Direction) (start 
     -- "1 to 12 as the judge gives"
     JUDGED : ¬ Accepted → Told (halted (judged points corners begins)) trail
     -- "13 START, start is V or more"
-    START : Accepted → vertices points ≤ start → Told (halted (refused 13 0 0)) trail
+    START : Accepted → vertices points ≤ start → Told (halted (refused 13)) trail
     -- "14 DIRECTION, a part outside -32,767 to 32,767"
-    DIRECTION : Accepted → start < vertices points → ¬ Permitted d → Told (halted (refused 14 0 0)) trail
+    DIRECTION : Accepted → start < vertices points → ¬ Permitted d → Told (halted (refused 14)) trail
     -- "15 TRAIL, fewer than V entries"
-    TRAIL : Accepted → start < vertices points → Permitted d → length trail < vertices points → Told (halted (refused 15 0 0)) trail
+    TRAIL : Accepted → start < vertices points → Permitted d → length trail < vertices points → Told (halted (refused 15)) trail
     -- "The answer is last vertex, its height, moves"
     ARRIVED : Granted → Told (arrived (finish points corners begins d start)) (trailed points corners begins d start trail)
 
   abbrev Outcome : Walked → List ℕ → Type 0
   Outcome r t = (r ≡ walked points corners begins d start trail) × (t ≡ trailAfter points corners begins d start trail)
 
-  refused-by : {n : ℕ} → Accepted → fromStart points corners begins d start trail ≡ suc n → Outcome (halted (refused (suc n) 0 0)) trail
+  refused-by : {n : ℕ} → Accepted → fromStart points corners begins d start trail ≡ suc n → Outcome (halted (refused (suc n))) trail
   unfolding walked trailAfter
   refused-by {n} e f = let z = ne-eqb (suc n) 0 (λ q. omega arith) in (rw (e, f, z), rw (e, f, z))
 
@@ -62,6 +67,17 @@ module _ (points : List ℤ) (corners begins : List ℕ) (d : Direction) (start 
       let m = le-ltb _ _ (G .room) in
       (rw (G .accepted, l, w, m), rw (G .accepted, l, w, m))
 
+  -- a walk that is granted may climb from where it begins, and what the climb leaves is the outcome
+  module _ (G : Granted) {s : Standing} (e : s ≡ begin points d start) where
+    pub granted-climbs : {edges : List (List ℕ)} {heads : List ℕ} → Indexed corners begins edges heads → Climbs points corners begins edges heads s trail
+    granted-climbs I = climbs e (is-measured points corners begins (G .accepted)) (leaves-each I) (G .permitted) (G .corner) (G .room)
+
+    pub climbed-told : {w : Walked} {r : Standing} {t : List ℕ} → w ≡ arrived r → Climbed points corners begins s trail r t
+        → (w ≡ walked points corners begins d start trail) × (t ≡ trailAfter points corners begins d start trail)
+    climbed-told a C =
+        let (m, n) = told-is (ARRIVED G) in
+        (a ∙ ap arrived (rw e at (C .last)) ∙ m, rw e at (C .lists) ∙ n)
+
   -- .. and the outcome is a told's
   pub told : Told (walked points corners begins d start trail) (trailAfter points corners begins d start trail)
   told = elim (ℕ-discrete (judged points corners begins .number) 0) [
@@ -75,7 +91,8 @@ module _ (points : List ℤ) (corners begins : List ℕ) (d : Direction) (start 
       given : {r : Walked} {t : List ℕ} → Told r t → Told (walked points corners begins d start trail) (trailAfter points corners begins d start trail)
       given {r} x = let (p, q) = told-is x in subst (λ s. Told s (trailAfter points corners begins d start trail)) p (subst (λ t. Told r t) q x)
 
-      from-direction : (b : Bool) → isWrong d ≡ b → Accepted → start < vertices points → Told (walked points corners begins d start trail) (trailAfter points corners begins d start trail)
+      from-direction : (b : Bool) → isWrong d ≡ b → Accepted → start < vertices points
+          → Told (walked points corners begins d start trail) (trailAfter points corners begins d start trail)
       from-direction true w e l = given (DIRECTION e l (wrong-exactly d .0 w))
       from-direction false w e l = elim (decLt (length trail) (vertices points)) [
         | yes m ↦ given (TRAIL e l (permitted d w) m)

@@ -6,7 +6,7 @@ use lib.Dec.{eqb, ltb, leb}
 use lib.IntN.{ℤ, pos}
 use lib.ListN.{length}
 use Rattle.points.specs.Points.{vertices}
-use Rattle.answers.specs.Answer.{refused}
+use Rattle.answers.specs.Answer.{refused, passed}
 use Rattle.answers.specs.declared.Answer.{Answer}
 use Rattle.judge.specs.Judge.{judged}
 use Rattle.direction.specs.Direction.{isWrong}
@@ -21,7 +21,7 @@ halted a = record { answer = a; vertex = 0; height = pos 0; moves = 0 }
 
 -- "The answer is last vertex, its height, moves", with the number 0 and no places
 abbrev pub arrived : Standing → Walked
-arrived s = record { answer = refused 0 0 0; vertex = s .spot .vertex; height = s .spot .height; moves = s .moves }
+arrived s = record { answer = passed; vertex = s .spot .vertex; height = s .spot .height; moves = s .moves }
 
 module _ (points : List ℤ) (corners begins : List ℕ) (d : Direction) (start : ℕ) (trail : List ℕ) where
   -- "13 START, start is V or more; 14 DIRECTION, a part outside -32,767 to 32,767; 15 TRAIL, fewer than V entries"; 0 where none applies
@@ -30,7 +30,7 @@ module _ (points : List ℤ) (corners begins : List ℕ) (d : Direction) (start 
 
   -- "Refusals in this order: 1 to 12 as the judge gives", then these
   abbrev pub refusal : Answer
-  refusal = cond (eqb (judged points corners begins .number) 0) (refused fromStart 0 0) (judged points corners begins)
+  refusal = cond (eqb (judged points corners begins .number) 0) (refused fromStart) (judged points corners begins)
 
   -- whether none of them applies
   abbrev pub isOpen : Bool

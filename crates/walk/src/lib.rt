@@ -1,8 +1,6 @@
 // The walk to a highest vertex of a solid that it judges first.
 ghost use mathlib.Core.Path.{_≡_};
 ghost use Rattle.answers.specs.Answer.{refused};
-ghost use Rattle.direction.specs.Direction.{direction};
-ghost use Rattle.height.specs.Height.{height, spot};
 ghost use Rattle.walk.specs.Walk.{halted, arrived, walked, trailAfter};
 
 // The walk's answer: the number and places beside the last vertex, its height, and the moves.
@@ -26,15 +24,15 @@ impl Walked {
     }
 
     fn refused(number: u16) -> Self
-        ensures { λ r. ⌜ r ≡ halted (refused number 0 0) ⌝ }
+        ensures { λ r. ⌜ r ≡ halted (refused number) ⌝ }
     {
-        Self::halted(answers::Answer::refused(number, 0, 0))
+        Self::halted(answers::Answer::refused(number))
     }
 
     fn arrived(last: climb::Standing) -> Self
         ensures { λ r. ⌜ r ≡ arrived last ⌝ }
     {
-        let answer = answers::Answer::refused(0, 0, 0);
+        let answer = answers::Answer::passed();
         let spot = last.spot;
         Self {
             answer,
@@ -54,13 +52,12 @@ pub fn walk(
     start: usize,
     trail: &mut [u16],
 ) -> Walked
-    ensures { λ r. ⌜ r ≡ walked (now (points .entry)) (now (corners .entry)) (now (begins .entry)) direction start (now (trail .entry)) ⌝ }
-    ensures { λ r. ⌜ now (trail .exit) ≡ trailAfter (now (points .entry)) (now (corners .entry)) (now (begins .entry)) direction start (now (trail .entry)) ⌝ }
+    ensures answer { λ r. ⌜ r ≡ walked (now (points .entry)) (now (corners .entry)) (now (begins .entry)) direction start (now (trail .entry)) ⌝ }
+    ensures trail { λ r. ⌜ now (trail .exit) ≡ trailAfter (now (points .entry)) (now (corners .entry)) (now (begins .entry)) direction start (now (trail .entry)) ⌝ }
 {
-    let mut ends = [0u16; 6144];
-    let mut last = [0u16; 1024];
-    let mut back = [0u16; 6144];
-    let answer = judge::judge_with_index(points, corners, begins, &mut ends, &mut last, &mut back);
+    let mut edges = [[0u16; 4]; tables::MOST_CORNERS];
+    let mut heads = [0u16; tables::MOST_VERTICES];
+    let answer = judge::judge_with_index(points, corners, begins, &mut edges, &mut heads);
     if answer.number != 0 {
         return Walked::halted(answer);
     }
@@ -74,15 +71,6 @@ pub fn walk(
     if trail.len() < vertices {
         return Walked::refused(15);
     }
-    Walked::arrived(climb::climb(
-        points,
-        corners,
-        begins,
-        &ends,
-        &last,
-        &back,
-        direction,
-        start as u16,
-        trail,
-    ))
+    let begin = climb::Standing::begin(points, direction, start as u16);
+    Walked::arrived(begin.climb(points, corners, begins, &edges, &heads, trail))
 }
