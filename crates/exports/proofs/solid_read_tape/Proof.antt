@@ -6,7 +6,8 @@ use Rattle.exports.proofs.solid_read_tape.Tie as tie
 returns : tie.Need-returns
 returns c =
     let n = c .before in
-    let (answer, (points, (corners, begins))) = n .before .before .before .before .before .before .read-tape .ensures in
+    let b = n .before .before .before in
+    let (answer, (points, (corners, begins))) = b .before .before .before .read-tape .ensures in
     let t = rw answer at (n .note-reading .ensures) in
     (t .number-is, (points, (corners, (begins, t .out-is))))
 
