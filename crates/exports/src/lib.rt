@@ -37,9 +37,13 @@ pub extern "C" fn solid_walk(
     trail: &mut [u16],
     out: &mut [i64],
 ) -> u16
-    ensures { λ r. ⌜ r ≡ walked (now (points .entry)) (now (corners .entry)) (now (begins .entry)) (direction dx dy dz) start (now (trail .entry)) .answer .number ⌝ }
-    ensures { λ _. ⌜ now (trail .exit) ≡ trailAfter (now (points .entry)) (now (corners .entry)) (now (begins .entry)) (direction dx dy dz) start (now (trail .entry)) ⌝ }
-    ensures { λ _. ⌜ now (out .exit) ≡ noted (course (walked (now (points .entry)) (now (corners .entry)) (now (begins .entry)) (direction dx dy dz) start (now (trail .entry)))) (now (out .entry)) ⌝ }
+    ensures { λ r. ⌜ r ≡
+        walked (now (points .entry)) (now (corners .entry)) (now (begins .entry)) (direction dx dy dz) start (now (trail .entry)) .answer .number ⌝ }
+    ensures { λ _. ⌜ now (trail .exit) ≡
+        trailAfter (now (points .entry)) (now (corners .entry)) (now (begins .entry)) (direction dx dy dz) start (now (trail .entry)) ⌝ }
+    ensures { λ _. ⌜ now (out .exit) ≡
+        noted (course (walked (now (points .entry)) (now (corners .entry)) (now (begins .entry)) (direction dx dy dz) start (now (trail .entry))))
+        (now (out .entry)) ⌝ }
 {
     let direction = direction::Direction::new(dx, dy, dz);
     notes::note_walked(
@@ -70,7 +74,8 @@ pub extern "C" fn solid_read_tape(
     ensures { λ _. ⌜ now (points .exit) ≡ pointsAfter (now (tape .entry)) (now (points .entry)) (now (corners .entry)) (now (begins .entry)) ⌝ }
     ensures { λ _. ⌜ now (corners .exit) ≡ cornersAfter (now (tape .entry)) (now (points .entry)) (now (corners .entry)) (now (begins .entry)) ⌝ }
     ensures { λ _. ⌜ now (begins .exit) ≡ beginsAfter (now (tape .entry)) (now (points .entry)) (now (corners .entry)) (now (begins .entry)) ⌝ }
-    ensures { λ _. ⌜ now (out .exit) ≡ noted (counts (reading (now (tape .entry)) (now (points .entry)) (now (corners .entry)) (now (begins .entry)))) (now (out .entry)) ⌝ }
+    ensures { λ _. ⌜ now (out .exit) ≡
+        noted (counts (reading (now (tape .entry)) (now (points .entry)) (now (corners .entry)) (now (begins .entry)))) (now (out .entry)) ⌝ }
 {
     notes::note_reading(out, reader::read_tape(tape, points, corners, begins))
 }
@@ -86,7 +91,8 @@ pub extern "C" fn solid_write_tape(
 ) -> u16
     ensures { λ r. ⌜ r ≡ written (now (points .entry)) (now (corners .entry)) (now (begins .entry)) (now (buffer .entry)) .number ⌝ }
     ensures { λ _. ⌜ now (buffer .exit) ≡ bufferAfter (now (points .entry)) (now (corners .entry)) (now (begins .entry)) (now (buffer .entry)) ⌝ }
-    ensures { λ _. ⌜ now (out .exit) ≡ noted (places (written (now (points .entry)) (now (corners .entry)) (now (begins .entry)) (now (buffer .entry)))) (now (out .entry)) ⌝ }
+    ensures { λ _. ⌜ now (out .exit) ≡
+        noted (places (written (now (points .entry)) (now (corners .entry)) (now (begins .entry)) (now (buffer .entry)))) (now (out .entry)) ⌝ }
 {
     notes::note_answer(out, writer::write_tape(points, corners, begins, buffer))
 }

@@ -5,10 +5,14 @@ use Rattle.notes.proofs.note_reading.Statement.{statement}
 use Rattle.notes.proofs.note_reading.Tie as tie
 
 returns : tie.Need-returns
-returns c = rw (c .before .before .before .before .read .given .1) (record { number-is = refl; out-is = c .before .note-places .ensures })
+returns c =
+    let n = c .before in
+    rw (n .before .before .before .read .given .1) (record { number-is = refl; out-is = n .note-places .ensures })
 
 returns-2 : tie.Need-returns-2
-returns-2 c = rw (c .before .before .before .before .read2 .given .1) (record { number-is = refl; out-is = c .before .note-places2 .ensures })
+returns-2 c =
+    let n = c .before in
+    rw (n .before .before .before .read2 .given .1) (record { number-is = refl; out-is = n .note-places2 .ensures })
 
 pub note-reading-spec : {M : Type 1} → statement M
 note-reading-spec =

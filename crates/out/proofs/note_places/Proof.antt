@@ -1,6 +1,6 @@
 -- `out::note_places` meets its contract. Assumes nothing.
-use borrow.Author.Needs.{needs, sfits-of}
-use mir.Facts.{toZ-ofZ}
+use borrow.Author.Needs.{needs}
+use Rattle.lines.specs.Line.{number-read}
 use Rattle.out.proofs.note_places.Statement.{statement}
 use Rattle.out.proofs.note_places.Tie as tie
 
@@ -11,12 +11,9 @@ returns c =
     let x = y .before in
     rw (
       c .before .note .ensures,
-      toZ-ofZ (sfits-of (x .number-of .ok)),
-      toZ-ofZ (sfits-of (y .number-of2 .ok)),
-      toZ-ofZ (sfits-of (z .number-of3 .ok)),
-      x .number-of .ensures,
-      y .number-of2 .ensures,
-      z .number-of3 .ensures,
+      number-read _ (x .number-of .ensures),
+      number-read _ (y .number-of2 .ensures),
+      number-read _ (z .number-of3 .ensures),
     )
 
 pub note-places-spec : {M : Type 1} → statement M

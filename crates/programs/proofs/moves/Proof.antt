@@ -1,9 +1,9 @@
 -- `programs::moves` meets its contract. Assumes nothing.
-use borrow.Author.Needs.{needs, sfits-of}
-use mathlib.Core.Path.{_∙_}
+use borrow.Author.Needs.{needs}
 use mir.Syntax.{w64}
 use mir.Val.{SFits}
 use mir.Facts.{toZ-ofZ}
+use Rattle.lines.specs.Line.{number-read}
 use Rattle.programs.specs.Lines.{movesOf, printed}
 use Rattle.programs.proofs.moves.Statement.{statement}
 use Rattle.programs.proofs.moves.Tie as tie
@@ -16,9 +16,9 @@ returns c =
     let t = a .before .before in
     let w = t .before .before .args .w in
     let s : SFits w64 (w .height) = record { sfits = t .struct-told .given .1 .1 .0 .1 } in
-    let e = toZ-ofZ {w = w64} (sfits-of (d .number-of3 .ok)) ∙ d .number-of3 .ensures in
-    let f = toZ-ofZ {w = w64} (sfits-of (b .number-of2 .ok)) ∙ b .number-of2 .ensures in
-    let g = toZ-ofZ {w = w64} (sfits-of (a .number-of .ok)) ∙ a .number-of .ensures in
+    let e = number-read _ (d .number-of3 .ensures) in
+    let f = number-read _ (b .number-of2 .ensures) in
+    let g = number-read _ (a .number-of .ensures) in
     printed (movesOf w) (rw (e, f, g, toZ-ofZ s) at (c .line4 .ensures))
 
 pub moves-spec : {M : Type 1} → statement M

@@ -7,22 +7,29 @@ use Rattle.walk_tape.specs.Tape.{walkedTape, walkedFrom, atNothing}
 use Rattle.walk_tape.proofs.walk_tape.Statement.{statement}
 use Rattle.walk_tape.proofs.walk_tape.Tie as tie
 
+abbrev start : tie.After-load → tie.Start
+start l =
+    let lent = l .before .before .before in
+    lent .before .before
+
 returns : tie.Need-returns
 unfolding walkedTape
 returns c =
     let l = c .before .before .before in
-    let a = l .before .before .before .before .before .args in
+    let a = start l .args in
     let e = l .load .ensures .refusal (c .before .if1 .taken) in
     ap halted (c .refused .ensures) ∙ of-refusal _ (walkedFrom (a .direction) (a .start)) atNothing e
 
 returns-2 : tie.Need-returns-2
 unfolding walkedTape
 returns-2 c =
-    let e = c .before .before .before .before .before .before in
+    let w = c .before in
+    let e = w .before .before .before .before .before in
     let l = e .before .before in
-    let a = l .before .before .before .before .before .args in
+    let a = start l .args in
     let t = l .load .ensures .tables (e .if1 .left) in
-    c .before .walk .ensures .0 ∙ of-tables _ (walkedFrom (a .direction) (a .start)) atNothing t
+    let (answer, trail) = w .walk .ensures in
+    answer ∙ of-tables _ (walkedFrom (a .direction) (a .start)) atNothing t
 
 pub walk-tape-spec : {M : Type 1} → statement M
 walk-tape-spec =

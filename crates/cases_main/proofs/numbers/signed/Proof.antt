@@ -1,7 +1,5 @@
 -- `cases_main::numbers::signed` meets its contract. Assumes nothing.
 use borrow.Author.Needs.{needs}
-use mir.Syntax.{w32}
-use mir.Val.{SFits}
 use mir.Facts.{toZ-ofZ}
 use Rattle.whole.specs.Bounds.{within-fits, within-exceeds}
 use Rattle.cases_main.proofs.numbers.signed.Statement.{statement}
