@@ -141,10 +141,12 @@ pub passes-0 : {rs : List Rule} → Passes rs 0
 passes-0 = record { none = λ i l. absurd (omega arith) }
 
 pub passes-more : {rs : List Rule} {n : ℕ} → Passes rs n → placeAt rs n ≡ Nothing → Passes rs (n + 1)
-passes-more {rs} {n} P e = record { none = λ i l. elim (decLt i n) [
-  | yes b ↦ P .none i b
-  | no b ↦ let s : i ≡ n = omega arith in rw s e
-] }
+passes-more {rs} {n} P e = record {
+  none = λ i l. elim (decLt i n) [
+    | yes b ↦ P .none i b
+    | no b ↦ let s : i ≡ n = omega arith in rw s e
+  ];
+}
 
 rest : {r : Rule} {rs : List Rule} {n : ℕ} → Passes (r ∷ rs) (suc n) → Passes rs n
 rest P = record { none = λ i l. P .none (suc i) (omega arith) }

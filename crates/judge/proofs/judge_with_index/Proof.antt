@@ -28,9 +28,11 @@ returns c =
     let corners = a .corners .now in
     let begins = a .begins .now in (
       c .of .ensures ∙ ap (answerOf points corners begins) first,
-      record { indexed = λ e.
-        let n = sym (answer-number points corners begins (f .first-fault .result)) ∙ sym (ap (λ r. r .number) (c .of .ensures)) ∙ e in
-        index .indexed (first ∙ none-broken points corners begins (ap numberOf (sym first) ∙ n)) },
+      record {
+        indexed = λ e.
+            let n = sym (answer-number points corners begins (f .first-fault .result)) ∙ sym (ap (λ r. r .number) (c .of .ensures)) ∙ e in
+            index .indexed (first ∙ none-broken points corners begins (ap numberOf (sym first) ∙ n));
+      },
     )
 
 pub judge-with-index-spec : {M : Type 1} → statement M
