@@ -8,7 +8,8 @@ use Rattle.whole.specs.First.{firstBelow}
 use Rattle.points.specs.Range.{isOut}
 use Rattle.points.specs.Points.{coordOf}
 use Rattle.tables.specs.Size.{isSize}
-use Rattle.answers.specs.Answer.{accepted, fault, refused}
+use Rattle.answers.specs.Answer.{fault, refused, ofLength}
+use Rattle.answers.specs.Order.{firstOf}
 use Rattle.tape.specs.Little.{bytesOf, numberAt, bits, signed}
 use Rattle.whole.specs.Joined.{joined}
 use Rattle.whole.specs.Over.{over}
@@ -107,7 +108,7 @@ numbers = record { minus-one = refl; least = refl; most = refl; lower-first = re
 
 -- the writer: T with just enough space, and with a byte less; cases B, C and D refused as the judge does
 pub record Writes : Type 0 where
-  pub space : written points corners begins (replicate 61 7) ≡ accepted 61 0 0
+  pub space : written points corners begins (replicate 61 7) ≡ ofLength 61
   pub bytes : bufferAfter points corners begins (replicate 61 7) ≡ bytesT
   pub no-space : written points corners begins (replicate 60 7) ≡ refused 23
   pub size : written points (take 9 corners) (take 4 begins) [] ≡ fault 1 0 0
@@ -115,5 +116,5 @@ pub record Writes : Type 0 where
   pub index : written points (0 ∷ 2 ∷ 1 ∷ 0 ∷ 1 ∷ 3 ∷ 0 ∷ 3 ∷ 2 ∷ 1 ∷ 2 ∷ 4 ∷ []) begins [] ≡ fault 3 3 2
 
 pub writes : Writes
-unfolding isSize isOut coordOf firstBelow over joined packed bytesOf bits
+unfolding firstOf isSize isOut coordOf firstBelow over joined packed bytesOf bits
 writes = record { space = refl; bytes = refl; no-space = refl; size = refl; range = refl; index = refl }
