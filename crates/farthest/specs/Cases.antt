@@ -10,10 +10,10 @@ use Rattle.whole.specs.Rounds.{tab, rounds}
 use Rattle.space.specs.Vectors.{_-_, _·_, det}
 use Rattle.points.specs.Range.{isOut}
 use Rattle.points.specs.Points.{coordOf}
-use Rattle.sides.specs.Sides.{differenceOf}
 use Rattle.tables.specs.Tables.{homeOf, nextOf}
 use Rattle.tables.specs.Size.{isSize}
 use Rattle.answers.specs.Answer.{fault, refused, passed}
+use Rattle.answers.specs.Order.{firstOf}
 use Rattle.edges.specs.Edge.{acrossOf}
 use Rattle.ring.specs.Step.{roundOf}
 use Rattle.apart.specs.Apart.{flooded}
@@ -72,7 +72,9 @@ pub record Cases : Type 0 where
   pub limits : Case T (direction (pos 32767) (negsuc 32766) (pos 0)) 2 (9 ∷ 9 ∷ 9 ∷ 9 ∷ []) (to 1 (pos 32767) 1) (2 ∷ 1 ∷ 9 ∷ 9 ∷ [])
 
 pub cases : Cases
-unfolding walked trailAfter judged isSize isOut coordOf differenceOf _-_ _·_ det firstBelow countBelow lastBelow iterate tab rounds homeOf nextOf acrossOf roundOf flooded isBent isTurn isReflex isOutside isSteep step after stood
+unfolding judged firstOf isSize isOut coordOf firstBelow countBelow lastBelow
+    iterate tab rounds homeOf nextOf acrossOf roundOf flooded isBent isTurn
+    isReflex isOutside _-_ _·_ det walked trailAfter isSteep step after stood
 cases = record {
   J = record { answer = refl; trail-after = refl };
   K = record { answer = refl; trail-after = refl };
