@@ -1,13 +1,8 @@
 // Runs the stored cases. Each line of standard input is a letter and what is lent, where a list is how many numbers, then each.
 // The answer is printed on one line, and after it what stands in the lent tables.
-mod lists;
-mod numbers;
-mod show;
 mod solids;
 mod tapes;
 
-use lists::fill_points;
-use show::show_answer;
 use solids::solid_case;
 use tapes::has_tape;
 use tapes::tape_case;
@@ -21,10 +16,10 @@ const TEXT: usize = 400000;
 fn outline_case(text: &[u8], from: usize) -> usize {
     let mut at = from;
     let mut points = [0i32; OUTLINE];
-    let p = fill_points(text, &mut at, &mut points);
+    let p = case_lists::fill_points(text, &mut at, &mut points);
     let mut out = [0i64; 1];
     let number = exports::solid_outline(&points[..p], &mut out);
-    show_answer(number, &out);
+    case_show::show_answer(number, &out);
     io::write_all(1, b"\n");
     at
 }

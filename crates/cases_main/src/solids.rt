@@ -1,12 +1,4 @@
 // Cases that begin with a solid's three tables: of the judge, the walk and the tape's writer.
-use crate::lists::fill_points;
-use crate::lists::fill_shorts;
-use crate::lists::part_of_bytes;
-use crate::numbers::next_natural;
-use crate::numbers::next_signed;
-use crate::show::show_answer;
-use crate::show::show_bytes;
-use crate::show::show_shorts;
 
 // Room for the longest list of these cases, and for the longest buffer.
 const LIST: usize = 400;
@@ -17,7 +9,7 @@ const BUFFER: usize = 21600;
 fn judge_case(points: &[i32], corners: &[u16], begins: &[u16]) {
     let mut out = [0i64; 3];
     let number = exports::solid_judge(points, corners, begins, &mut out);
-    show_answer(number, &out);
+    case_show::show_answer(number, &out);
     io::write_all(1, b"\n");
 }
 
@@ -34,20 +26,20 @@ fn walk_along(
 ) {
     let mut out = [0i64; 6];
     let number = exports::solid_walk(points, corners, begins, start, dx, dy, dz, trail, &mut out);
-    show_answer(number, &out);
-    show_shorts(trail);
+    case_show::show_answer(number, &out);
+    case_show::show_shorts(trail);
     io::write_all(1, b"\n");
 }
 
 // W: start, direction, and the trail as it is before the walk. Where the text goes on.
 fn walk_case(text: &[u8], from: usize, points: &[i32], corners: &[u16], begins: &[u16]) -> usize {
     let mut at = from;
-    let start = next_natural(text, &mut at) as u32;
-    let dx = next_signed(text, &mut at);
-    let dy = next_signed(text, &mut at);
-    let dz = next_signed(text, &mut at);
+    let start = case_numbers::next_natural(text, &mut at) as u32;
+    let dx = case_numbers::next_signed(text, &mut at);
+    let dy = case_numbers::next_signed(text, &mut at);
+    let dz = case_numbers::next_signed(text, &mut at);
     let mut trail = [0u16; LIST];
-    let n = fill_shorts(text, &mut at, &mut trail);
+    let n = case_lists::fill_shorts(text, &mut at, &mut trail);
     walk_along(points, corners, begins, start, dx, dy, dz, &mut trail[..n]);
     at
 }
@@ -64,9 +56,9 @@ fn write_into(
     let mut at = from;
     let mut out = [0i64; 3];
     let number = exports::solid_write_tape(points, corners, begins, buffer, &mut out);
-    show_answer(number, &out);
-    let n = part_of_bytes(text, &mut at, buffer);
-    show_bytes(&buffer[..n]);
+    case_show::show_answer(number, &out);
+    let n = case_lists::part_of_bytes(text, &mut at, buffer);
+    case_show::show_bytes(&buffer[..n]);
     io::write_all(1, b"\n");
     at
 }
@@ -75,7 +67,7 @@ fn write_into(
 fn write_case(text: &[u8], from: usize, points: &[i32], corners: &[u16], begins: &[u16]) -> usize {
     let mut at = from;
     let mut buffer = [77u8; BUFFER];
-    let n = part_of_bytes(text, &mut at, &buffer);
+    let n = case_lists::part_of_bytes(text, &mut at, &buffer);
     write_into(text, at, points, corners, begins, &mut buffer[..n])
 }
 
@@ -83,11 +75,11 @@ fn write_case(text: &[u8], from: usize, points: &[i32], corners: &[u16], begins:
 pub(crate) fn solid_case(letter: u8, text: &[u8], from: usize) -> usize {
     let mut at = from;
     let mut points = [0i32; LIST];
-    let p = fill_points(text, &mut at, &mut points);
+    let p = case_lists::fill_points(text, &mut at, &mut points);
     let mut corners = [0u16; LIST];
-    let c = fill_shorts(text, &mut at, &mut corners);
+    let c = case_lists::fill_shorts(text, &mut at, &mut corners);
     let mut begins = [0u16; LIST];
-    let b = fill_shorts(text, &mut at, &mut begins);
+    let b = case_lists::fill_shorts(text, &mut at, &mut begins);
     if letter == b'W' {
         return walk_case(text, at, &points[..p], &corners[..c], &begins[..b]);
     }

@@ -1,10 +1,4 @@
 // Cases that begin with a tape: of its reader, the judging program and the walk program.
-use crate::lists::fill_bytes;
-use crate::lists::part_of_points;
-use crate::lists::part_of_shorts;
-use crate::show::show_answer;
-use crate::show::show_points;
-use crate::show::show_shorts;
 
 // Room for the longest tape of these cases, for the walk program's longest input, and for the longest table.
 const TAPE: usize = 13000;
@@ -25,13 +19,13 @@ fn read_into(
     let mut at = from;
     let mut out = [0i64; 3];
     let number = exports::solid_read_tape(tape, points, corners, begins, &mut out);
-    show_answer(number, &out);
-    let p = part_of_points(text, &mut at, points);
-    show_points(&points[..p]);
-    let c = part_of_shorts(text, &mut at, corners);
-    show_shorts(&corners[..c]);
-    let b = part_of_shorts(text, &mut at, begins);
-    show_shorts(&begins[..b]);
+    case_show::show_answer(number, &out);
+    let p = case_lists::part_of_points(text, &mut at, points);
+    case_show::show_points(&points[..p]);
+    let c = case_lists::part_of_shorts(text, &mut at, corners);
+    case_show::show_shorts(&corners[..c]);
+    let b = case_lists::part_of_shorts(text, &mut at, begins);
+    case_show::show_shorts(&begins[..b]);
     io::write_all(1, b"\n");
     at
 }
@@ -40,11 +34,11 @@ fn read_into(
 fn read_case(text: &[u8], from: usize, tape: &[u8]) -> usize {
     let mut at = from;
     let mut points = [77i32; TABLE];
-    let p = part_of_points(text, &mut at, &points);
+    let p = case_lists::part_of_points(text, &mut at, &points);
     let mut corners = [77u16; TABLE];
-    let c = part_of_shorts(text, &mut at, &corners);
+    let c = case_lists::part_of_shorts(text, &mut at, &corners);
     let mut begins = [77u16; TABLE];
-    let b = part_of_shorts(text, &mut at, &begins);
+    let b = case_lists::part_of_shorts(text, &mut at, &begins);
     read_into(
         text,
         at,
@@ -67,7 +61,7 @@ fn judging_case(tape: &[u8]) {
 fn walking_case(text: &[u8], from: usize, tape: &[u8]) -> usize {
     let mut at = from;
     let mut input = [0u8; INPUT];
-    let n = fill_bytes(text, &mut at, &mut input);
+    let n = case_lists::fill_bytes(text, &mut at, &mut input);
     let line = programs::walk_line(tape, &input[..n]);
     let bytes = line.bytes;
     let len = line.len;
@@ -90,7 +84,7 @@ pub(crate) fn has_tape(letter: u8) -> bool {
 pub(crate) fn tape_case(letter: u8, text: &[u8], from: usize) -> usize {
     let mut at = from;
     let mut tape = [0u8; TAPE];
-    let n = fill_bytes(text, &mut at, &mut tape);
+    let n = case_lists::fill_bytes(text, &mut at, &mut tape);
     if letter == b'R' {
         return read_case(text, at, &tape[..n]);
     }

@@ -24,7 +24,8 @@ returns-2 : tie.Need-returns-2
 unfolding walkedTape
 returns-2 c =
     let w = c .before in
-    let e = w .before .before .before .before .before in
+    let corners = w .before .before .before in
+    let e = corners .before .before in
     let l = e .before .before in
     let a = start l .args in
     let t = l .load .ensures .tables (e .if1 .left) in

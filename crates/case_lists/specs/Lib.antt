@@ -1,0 +1,2 @@
+-- What the contracts on the stored cases' lists cite.
+pub mod Begin

@@ -1,8 +1,0 @@
--- `cases_main::lists::part_of_points` meets its contract. Assumes nothing.
-use borrow.Author.Needs.{needs}
-use Rattle.cases_main.specs.Begin.{begin}
-use Rattle.cases_main.proofs.lists.part_of_points.Statement.{statement}
-use Rattle.cases_main.proofs.lists.part_of_points.Tie as tie
-
-pub part-of-points-spec : {M : Type 1} → statement M
-part-of-points-spec = tie.close (tie.spec (λ c κs. search needs) (λ c. begin _ _ (c .next-count .ensures)))

@@ -1,2 +1,0 @@
--- What the contracts of the stored cases cite.
-pub mod Begin
