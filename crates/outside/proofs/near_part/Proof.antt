@@ -1,7 +1,7 @@
 -- `outside::near_part` meets its contract: the law of searches over the corners of a facet, and along the chain of each. Assumes nothing.
 use borrow.Author.Needs.{needs}
 use native.Mathlib.Omega.{arith}
-use Prim.Native.Nat.{_-_, _<_}
+use Prim.Native.Nat.{_-_}
 use lib.ListN.{length}
 use Rattle.outside.specs.Near.{Nearing, nearing-0, nearing-more, nearing-none, own-facet, corner-small}
 use Rattle.outside.specs.Near.{Chaining, chaining-0, chaining-hit, chaining-more, end-named, link-small, link-less}
