@@ -11,17 +11,17 @@ use lib.ListN.{length, getD}
 use Rattle.whole.specs.First.{anyBelow, None, none-0, none-more, any-hit, any-miss}
 use Rattle.whole.specs.Count.{lastBelow}
 use Rattle.points.specs.Points.{Vertex}
-use Rattle.tables.specs.Tables.{mostVertices, facets, facetOf, from, to}
+use Rattle.tables.specs.Tables.{mostVertices, mostCorners, facets, facetOf, from, to}
 use Rattle.tables.specs.Places.{next-below}
 use Rattle.index.specs.Entries.{endAt, backAt, headAt}
 use Rattle.edges.specs.Chains.{leaves, Within}
 use Rattle.edges.specs.Index.{Indexed, leaves-each, end-is}
-use Rattle.edges.specs.Along.{Seeking, seeking-0, seeking-more, seeking-here, seeking-none, place-below, place-leaves}
+use Rattle.edges.specs.Along.{Seeking, seeking-0, seeking-more, seeking-here, seeking-none, place-below, place-small, place-leaves, link-falls}
 use Rattle.flat.specs.Facet.{Facet, Measured, facet}
 use Rattle.outside.specs.Rules.{isOutside}
 
 -- the edge at place q leaves v, and OUTSIDE applies to its end
-abbrev pub leadsOut : List ℤ → List ℕ → List ℕ → List ℕ → ℕ → ℕ → Bool
+unfoldable pub leadsOut : List ℤ → List ℕ → List ℕ → List ℕ → ℕ → ℕ → Bool
 leadsOut points corners begins part v q = leaves corners v q && isOutside points part (to corners begins q)
 
 -- OUTSIDE applies to a neighbour of v
@@ -29,7 +29,7 @@ unfoldable pub isNear : List ℤ → List ℕ → List ℕ → List ℕ → ℕ 
 isNear points corners begins part v = ltb 0 (lastBelow (leadsOut points corners begins part v) (length corners))
 
 -- .. of some corner of a facet
-abbrev pub nearPart : List ℤ → List ℕ → List ℕ → List ℕ → Bool
+unfoldable pub nearPart : List ℤ → List ℕ → List ℕ → List ℕ → Bool
 nearPart points corners begins part = anyBelow (λ p. isNear points corners begins part (getD part p 0)) (length part)
 
 abbrev pub nearFacet : List ℤ → List ℕ → List ℕ → ℕ → Bool
@@ -42,7 +42,12 @@ near points corners begins = anyBelow (nearFacet points corners begins) (facets 
 -- at a place of the chain of v only the end is tested
 pub out-entry : (points : List ℤ) (corners begins part : List ℕ) (v p u : ℕ) → from corners p ≡ v → u ≡ to corners begins p
     → leadsOut points corners begins part v p ≡ isOutside points part u
+unfolding leadsOut
 out-entry points corners begins part v p u s e = rw (eq-eqb _ _ s, e)
+
+pub out-within : (points : List ℤ) (corners begins part : List ℕ) (v : ℕ) → Within corners v (leadsOut points corners begins part v)
+unfolding leadsOut
+out-within points corners begins part v p e = rw e
 
 -- tables that pass 1 to 3, and their index
 pub record Neighboured (points : List ℤ) (corners begins : List ℕ) (edges : List (List ℕ)) (heads : List ℕ) : Type 0 where
@@ -83,13 +88,24 @@ module _ {points : List ℤ} {corners begins : List ℕ} {edges : List (List ℕ
     corner-small {i} l = omega (arith, own-facet .named i l, N .tables .measured .sound .named .few)
 
     pub chaining-0 : p < length part → Chaining points corners begins edges heads f part p (headAt heads (getD part p 0))
-    chaining-0 l = record { nearing = N; here = l; seeking = seeking-0 (leaves-each (N .tables .indexed)) (λ q e. rw e) (corner-small l) }
+    chaining-0 l = record {
+      nearing = N;
+      here = l;
+      seeking = seeking-0 (leaves-each (N .tables .indexed)) (out-within points corners begins part (getD part p 0)) (corner-small l);
+    }
 
     pub nearing-none : length part ≤ p → false ≡ nearFacet points corners begins f
+    unfolding nearPart
     nearing-none h = rw (← N .part-is) (any-miss (N .none-yet) (N .upto) h)
 
   module _ {p q : ℕ} (C : Chaining points corners begins edges heads f part p q) where
     module _ (h : 0 < q) where
+      pub link-small : q - 1 < mostCorners
+      link-small = place-small (C .seeking) h
+
+      pub link-less : backAt edges (q - 1) < q
+      link-less = link-falls (C .seeking) h
+
       end-at-is : endAt edges (q - 1) ≡ to corners begins (q - 1)
       end-at-is = end-is (C .nearing .tables .indexed) (place-below (C .seeking) h)
 
@@ -103,7 +119,7 @@ module _ {points : List ℤ} {corners begins : List ℕ} {edges : List (List ℕ
         test-is = out-entry points corners begins part (getD part p 0) (q - 1) _ (place-leaves (C .seeking) h) end-at-is ∙ sym is
 
         pub chaining-hit : t ≡ true → true ≡ nearFacet points corners begins f
-        unfolding isNear
+        unfolding isNear nearPart
         chaining-hit e =
             rw (← C .nearing .part-is)
             (any-hit (C .nearing .none-yet) (lt-ltb 0 _ (rw (seeking-here (C .seeking) h (test-is ∙ e)) at h)) (C .here))
@@ -121,3 +137,27 @@ module _ {points : List ℤ} {corners begins : List ℕ} {edges : List (List ℕ
       upto = omega (arith, C .here);
       none-yet = none-more (C .nearing .none-yet) (rw (← seeking-none (C .seeking) h) refl);
     }
+
+-- ---- the loop over the facets: none of those before f has a neighbour of a corner outside
+
+pub record Looking (points : List ℤ) (corners begins : List ℕ) (edges : List (List ℕ)) (heads : List ℕ) (f : ℕ) : Type 0 where
+  pub tables : Neighboured points corners begins edges heads
+  pub upto : f ≤ facets begins
+  pub none-yet : None (nearFacet points corners begins) f
+
+module _ {points : List ℤ} {corners begins : List ℕ} {edges : List (List ℕ)} {heads : List ℕ} where
+  pub looking-0 : Neighboured points corners begins edges heads → Looking points corners begins edges heads 0
+  looking-0 T = record { tables = T; upto = omega arith; none-yet = none-0 (nearFacet points corners begins) }
+
+  module _ {f : ℕ} (K : Looking points corners begins edges heads f) where
+    module _ (l : f < facets begins) {t : Bool} (is : t ≡ nearFacet points corners begins f) where
+      pub looking-hit : t ≡ true → true ≡ near points corners begins
+      unfolding near
+      looking-hit e = any-hit (K .none-yet) (sym is ∙ e) l
+
+      pub looking-more : t ≡ false → Looking points corners begins edges heads (f + 1)
+      looking-more e = record { tables = K .tables; upto = omega arith; none-yet = none-more (K .none-yet) (sym is ∙ e) }
+
+    pub looking-none : facets begins ≤ f → false ≡ near points corners begins
+    unfolding near
+    looking-none h = any-miss (K .none-yet) (K .upto) h

@@ -1,12 +1,12 @@
 -- The short way of OUTSIDE: where 1 to 11 pass, it is enough to test the neighbours of each facet's corners. Assumes nothing.
 use mathlib.Core.Path.{_≡_, refl, sym, _∙_}
-use mathlib.Core.Bool.{Bool, true, false, true≢false}
+use mathlib.Core.Bool.{Bool, true, false, not, true≢false}
 use mathlib.Core.List.{List}
 use Prim.Native.Nat.{ℕ, _+_, _-_, _<_}
 use native.Mathlib.Omega.{arith}
 use lib.IntN.{ℤ}
 use lib.ListN.{length, getD}
-use borrow.Author.Tests.{ltb-true, ltb-false}
+use borrow.Author.Tests.{ltb-true, ltb-false, not-true}
 use Rattle.whole.specs.First.{firstBelow, any-false, first-holds}
 use Rattle.whole.specs.Count.{lastBelow, last as lastPlace, both}
 use Rattle.points.specs.Range.{limit}
@@ -22,7 +22,7 @@ use Rattle.bridge.specs.Surface.{tablesOf, sized-tables, place-names, place-run
 use Rattle.solid.specs.Tables.{Tables, Ranged, Closed, Flat, Reflex, Neighbours}
 use Rattle.solid.specs.Theorems.{local-global}
 use Rattle.outside.specs.Rules.{isOutside, outside}
-use Rattle.outside.specs.Near.{leadsOut, isNear, nearFacet, near, out-entry}
+use Rattle.outside.specs.Near.{leadsOut, isNear, nearPart, nearFacet, near, out-entry}
 use Rattle.outside.specs.Meaning.{inside-of, inside-outside}
 
 -- tables that pass 1 to 11
@@ -57,7 +57,7 @@ module _ {points : List ℤ} {corners begins : List ℕ} (M : Measured points co
   -- none of a corner of a facet
   none-near : near points corners begins ≡ false → (f i : ℕ) → f < facets begins → i < length (facetOf corners begins f)
       → isNear points corners begins (facetOf corners begins f) (cornerOf corners begins f i) ≡ false
-  unfolding near
+  unfolding near nearPart
   none-near e f i l k =
       let part = facetOf corners begins f in
       any-false (λ i. isNear points corners begins part (getD part i 0)) (length part)
@@ -81,10 +81,15 @@ near-enough {points} p e =
     inside-outside points (m .sound .laid)
     (local-global (sized-tables points (m .sound)) (ranged m) (p .closed) (p .flat) (p .reflex) (neighbours m e))
 
+-- as the code says it: t is what the local test answers
+pub passed-over : {points : List ℤ} {corners begins : List ℕ} {edges : List (List ℕ)} {heads : List ℕ} {t : Bool} → Ready points corners begins edges heads
+    → t ≡ near points corners begins → not t ≡ true → Nothing ≡ outside points corners begins
+passed-over R is e = sym (near-enough (R .passed) (sym is ∙ not-true _ e))
+
 -- and where the local test finds a vertex, OUTSIDE applies: no scan is made in vain
 pub near-needed : {points : List ℤ} {corners begins : List ℕ} → Measured points corners begins → near points corners begins ≡ true
     → outside points corners begins ≡ Nothing → ⊥
-unfolding near isNear
+unfolding near nearPart isNear leadsOut
 near-needed {points} {corners} {begins} m e o =
     let facet : ℕ → Bool = nearFacet points corners begins in
     let f = firstBelow facet (facets begins) in

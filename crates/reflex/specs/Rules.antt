@@ -7,10 +7,10 @@ use lib.IntN.{ℤ}
 use lib.ListN.{length, getD}
 use Rattle.whole.specs.First.{anyBelow}
 use Rattle.sides.specs.Sides.{isInside}
-use Rattle.tables.specs.Tables.{facets, begin, sides, facetOf, nextPosition, homeOf}
+use Rattle.tables.specs.Tables.{facets, begin, sides, facetOf, nextPosition}
 use Rattle.tables.specs.Found.{firstPlace}
 use Rattle.tables.specs.declared.Found.{Found}
-use Rattle.edges.specs.Edge.{acrossOf, facetAcross}
+use Rattle.edges.specs.Edge.{facetAcross}
 use Rattle.flat.specs.Rules.{sideAt}
 
 -- corner c, "other than the edge's ends, isn't strictly inside this facet's plane"

@@ -1,7 +1,5 @@
 -- `outside::is_outside` meets its contract. Assumes nothing.
 use borrow.Author.Needs.{needs}
-use mathlib.Core.Path.{_∙_, sym, ap}
-use Rattle.sides.specs.Sides.{isInside}
 use Rattle.outside.specs.Rules.{isOutside}
 use Rattle.outside.proofs.is_outside.Statement.{statement}
 use Rattle.outside.proofs.is_outside.Tie as tie

@@ -1,11 +1,10 @@
 -- `outside::near_part` meets its contract: the law of searches over the corners of a facet, and along the chain of each. Assumes nothing.
 use borrow.Author.Needs.{needs}
 use native.Mathlib.Omega.{arith}
-use Prim.Native.Nat.{_-_, _<_}
+use Prim.Native.Nat.{_-_}
 use lib.ListN.{length}
-use Rattle.edges.specs.Along.{place-small, link-falls}
 use Rattle.outside.specs.Near.{Nearing, nearing-0, nearing-more, nearing-none, own-facet, corner-small}
-use Rattle.outside.specs.Near.{Chaining, chaining-0, chaining-hit, chaining-more, end-named}
+use Rattle.outside.specs.Near.{Chaining, chaining-0, chaining-hit, chaining-more, end-named, link-small, link-less}
 use Rattle.outside.proofs.near_part.Statement.{statement}
 use Rattle.outside.proofs.near_part.Tie as tie
 
@@ -49,7 +48,7 @@ returns c =
 loop2-less : tie.Need-loop2-less Inv-loop2 μ-loop2 Inv-loop μ-loop
 loop2-less c =
     let e = c .before .before .before in
-    rw (c .back-at .ensures) (link-falls (e .before .before .loop2 .inv .seeking) (omega arith))
+    rw (c .back-at .ensures) (link-less (e .before .before .loop2 .inv) (omega arith))
 
 loop2-again : tie.Need-loop2-again Inv-loop2 μ-loop2 Inv-loop μ-loop
 loop2-again c =
@@ -75,10 +74,10 @@ near-part-spec =
     head-at-requires
     loop2-holds
     (λ c. omega arith)
-    (λ c κs. place-small (c .before .loop2 .inv .seeking) (omega arith))
+    (λ c κs. link-small (c .before .loop2 .inv) (omega arith))
     is-outside-requires
     returns
-    (λ c κs. let e = c .before .before in place-small (e .before .before .loop2 .inv .seeking) (omega arith))
+    (λ c κs. let e = c .before .before in link-small (e .before .before .loop2 .inv) (omega arith))
     loop2-less
     loop2-again
     (λ c. omega arith)

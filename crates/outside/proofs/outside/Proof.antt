@@ -1,7 +1,5 @@
 -- `outside::outside` meets its contract: where no neighbour is outside, no vertex is. Assumes nothing.
-use mathlib.Core.Path.{sym, _∙_}
-use borrow.Author.Tests.{not-true}
-use Rattle.outside.specs.Passed.{near-enough}
+use Rattle.outside.specs.Passed.{passed-over}
 use Rattle.outside.proofs.outside.Statement.{statement}
 use Rattle.outside.proofs.outside.Tie as tie
 
@@ -11,7 +9,7 @@ near-requires c κs = let ready = c .before .before .before .pre in record { mea
 returns : tie.Need-returns
 returns c =
     let t = c .before in
-    sym (near-enough (t .before .before .before .before .pre .passed) (sym (t .near .ensures) ∙ not-true _ (c .if2 .taken)))
+    passed-over (t .before .before .before .before .pre) (t .near .ensures) (c .if2 .taken)
 
 pub outside-spec : {M : Type 1} → statement M
 outside-spec =

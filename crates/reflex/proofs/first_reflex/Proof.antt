@@ -1,7 +1,7 @@
 -- `reflex::first_reflex` meets its contract: the law of searches, over the edges of a facet. Assumes nothing.
 use borrow.Author.Needs.{needs}
 use native.Mathlib.Omega.{arith}
-use Prim.Native.Nat.{_-_, _<_}
+use Prim.Native.Nat.{_-_}
 use lib.ListN.{length}
 use Rattle.reflex.specs.Fold.{Folding, folding-0, folding-hit, folding-more, folding-all, own-facet, edge-below, other-facet}
 use Rattle.reflex.proofs.first_reflex.Statement.{statement}

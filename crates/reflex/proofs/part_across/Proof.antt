@@ -1,5 +1,4 @@
 -- `reflex::part_across` meets its contract. Assumes nothing.
-use borrow.Author.Needs.{needs}
 use native.Mathlib.Omega.{arith}
 use Rattle.edges.specs.Index.{small, across-at-below, home-at-in}
 use Rattle.pair.specs.Across.{across-small, facet-across}

@@ -1,6 +1,6 @@
 -- `reflex::reflex` meets its contract: the law of searches, facet by facet. Assumes nothing.
 use native.Mathlib.Omega.{arith}
-use Prim.Native.Nat.{_-_, _<_}
+use Prim.Native.Nat.{_-_}
 use Rattle.tables.specs.Tables.{facets, sides}
 use Rattle.tables.specs.Places.{part-length}
 use Rattle.tables.specs.Found.{Free, free-0, free-hit, free-more, free-all}
