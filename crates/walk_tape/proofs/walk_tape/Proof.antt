@@ -29,8 +29,7 @@ returns-2 c =
     let l = e .before .before in
     let a = start l .args in
     let t = l .load .ensures .tables (e .if1 .left) in
-    let (answer, trail) = w .walk .ensures in
-    answer ∙ of-tables _ (walkedFrom (a .direction) (a .start)) atNothing t
+    rw (w .walk .ensures .0) (of-tables _ (walkedFrom (a .direction) (a .start)) atNothing t)
 
 pub walk-tape-spec : {M : Type 1} → statement M
 walk-tape-spec =
