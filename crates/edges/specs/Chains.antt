@@ -77,7 +77,8 @@ pub record Unmet (corners : List ℕ) (v : ℕ) (f : ℕ → Bool) (q : ℕ) : T
   pub on : On corners v q
   pub rest : lastBelow f q ≡ lastBelow f (length corners)
 
-module _ {corners : List ℕ} {edges : List (List ℕ)} {heads : List ℕ} (C : Chains corners edges heads (length corners)) {v : ℕ} {f : ℕ → Bool} (w : Within corners v f) where
+module _ {corners : List ℕ} {edges : List (List ℕ)} {heads : List ℕ} (C : Chains corners edges heads (length corners))
+    {v : ℕ} {f : ℕ → Bool} (w : Within corners v f) where
   alike-0 : v < mostVertices → Alike f (headAt heads v) (length corners)
   alike-0 l = gap f (headAt heads v) (length corners) (on-0 C l .upto) (λ p a b. w p (gap-0 C l p a b))
 

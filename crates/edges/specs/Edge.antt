@@ -26,7 +26,8 @@ acrossOf corners begins p = lastEdge corners begins (to corners begins p) (from 
 abbrev pub facetAcross : List ℕ → List ℕ → ℕ → ℕ
 facetAcross corners begins p = homeOf begins (acrossOf corners begins p)
 
-pub across-is : (corners begins : List ℕ) (p : ℕ) {b q : ℕ} → q ≡ lastEdge corners begins b (from corners p) → b ≡ to corners begins p → q - 1 ≡ acrossOf corners begins p
+pub across-is : (corners begins : List ℕ) (p : ℕ) {b q : ℕ} → q ≡ lastEdge corners begins b (from corners p)
+    → b ≡ to corners begins p → q - 1 ≡ acrossOf corners begins p
 unfolding acrossOf
 across-is corners begins p e s = rw (e, s)
 

@@ -10,8 +10,7 @@ use lib.Seq.{getD-set-same, getD-set-other}
 use borrow.Author.Tests.{eqb-true, eqb-false}
 use Rattle.whole.specs.First.{firstBelow, anyBelow, any-more}
 use Rattle.whole.specs.Count.{bit}
-use Rattle.names.specs.Rules.{isAt}
-use Rattle.names.specs.Rules.{unnamed}
+use Rattle.names.specs.Rules.{isAt, unnamed}
 
 pub record Marks (corners named : List ℕ) (i : ℕ) : Type 0 where
   pub long : length named ≡ 1024

@@ -58,11 +58,11 @@ pub fn repeat(corners: &[u16], begins: &[u16]) -> tables::Found
 }
 
 // A mark for each vertex that the run names: 1, else 0.
-fn marks(corners: &[u16]) -> [u8; 1024]
+fn marks(corners: &[u16]) -> [u8; tables::MOST_VERTICES]
     requires { ⌜ Named mostVertices (now corners) ⌝ }
     ensures { λ r. ⌜ Marks (now (corners .entry)) r (length (now (corners .entry))) ⌝ }
 {
-    let mut named = [0u8; 1024];
+    let mut named = [0u8; tables::MOST_VERTICES];
     let mut p = 0;
     while p < corners.len() {
         named[tables::wide(corners[p])] = 1;

@@ -53,7 +53,9 @@ module _ {corners begins : List ℕ} (P : Paired corners begins) where
   -- an edge occurs once
   pub edge-once : {p q : ℕ} → p < length corners → q < length corners → from corners p ≡ from corners q → to corners begins p ≡ to corners begins q → p ≡ q
   edge-once {p} {q} l m s e =
-      once (isEdge corners begins (from corners p) (to corners begins p)) (length corners) p q (occurs l .0) l m (edge corners begins p refl refl) (edge corners begins q (sym s) (sym e))
+      let here = edge corners begins p refl refl in
+      let there = edge corners begins q (sym s) (sym e) in
+      once (isEdge corners begins (from corners p) (to corners begins p)) (length corners) p q (occurs l .0) l m here there
 
   -- across is its own inverse
   pub across-twice : {p : ℕ} → p < length corners → acrossOf corners begins (acrossOf corners begins p) ≡ p

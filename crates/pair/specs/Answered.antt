@@ -35,7 +35,8 @@ unlike-entry {corners = corners} {q = q} I l e =
     rw (across-at-is I b, end-is I b, end-is I l, e ∙ across-at-is I l)
 
 -- the place across depends on the edge alone
-same-across : (corners begins : List ℕ) (p q : ℕ) → from corners p ≡ from corners q → to corners begins p ≡ to corners begins q → acrossOf corners begins p ≡ acrossOf corners begins q
+same-across : (corners begins : List ℕ) (p q : ℕ) → from corners p ≡ from corners q → to corners begins p ≡ to corners begins q
+    → acrossOf corners begins p ≡ acrossOf corners begins q
 unfolding acrossOf
 same-across corners begins p q s e = rw (s, e)
 
@@ -43,8 +44,10 @@ module _ {corners begins : List ℕ} (h : anyBelow (unanswered corners begins) (
   answered : {p : ℕ} → p < length corners → Reverse corners begins p (acrossOf corners begins p) × (acrossOf corners begins (acrossOf corners begins p) ≡ p)
   answered {p} l =
       let (t, r) = neither _ _ (any-false (unanswered corners begins) (length corners) h p l) in
-      let (s, e) = neither _ _ r in
-      (record { below = across-below corners begins l; starts = eqb-true _ _ (not-false _ s); ends = eqb-true _ _ (not-false _ e) }, eqb-true _ _ (not-false _ t))
+      let (s, e) = neither _ _ r in (
+        record { below = across-below corners begins l; starts = eqb-true _ _ (not-false _ s); ends = eqb-true _ _ (not-false _ e) },
+        eqb-true _ _ (not-false _ t),
+      )
 
   matched : Matched corners begins
   matched = record {

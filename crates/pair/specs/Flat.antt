@@ -36,7 +36,8 @@ abbrev pub byFacets : List ℕ → (ℕ → Bool) → Found
 byFacets begins test = firstPlace (facets begins) (sides begins) (λ f p. test (begin begins f + p))
 
 -- the places of an earlier facet are earlier
-early : {corners begins : List ℕ} {p : ℕ} (L : Laid corners begins) (g q : ℕ) → p < length corners → g < homeOf begins p → q < sides begins g → begin begins g + q < p
+early : {corners begins : List ℕ} {p : ℕ} (L : Laid corners begins) (g q : ℕ) → p < length corners → g < homeOf begins p
+    → q < sides begins g → begin begins g + q < p
 early {begins = begins} {p = p} L g q l k h =
     let m : g < facets begins = omega (arith, home L l .facet) in
     elim (decLt (begin begins g + q) p) [

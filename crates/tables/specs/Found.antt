@@ -6,7 +6,8 @@ use native.Mathlib.Nat.{le-refl}
 use native.Mathlib.Omega.{arith}
 use lib.Dec.{ltb}
 use borrow.Author.Tests.{lt-ltb, le-ltb, ltb-true, ltb-false}
-use Rattle.whole.specs.First.{firstBelow, anyBelow, pickBelow, None, none-0, none-more, none-all, never, first-holds, found, hit, miss, before-first, any-none, any-is}
+use Rattle.whole.specs.First.{firstBelow, anyBelow, pickBelow, None, none-0, none-more, none-all, never, first-holds, found, hit, miss, before-first}
+use Rattle.whole.specs.First.{any-none, any-is}
 use Rattle.tables.specs.declared.Found.{Found}
 use Rattle.tables.specs.declared.Found.the-variants.{At, Nothing}
 
@@ -119,7 +120,8 @@ no-place-is {n} {sizes} {test} h =
 
 -- ---- a loop over the facets: p is the first position of facet f at which the rule applies, or q, the number of its sides
 
-module _ (n : ℕ) (sizes : ℕ → ℕ) (test : ℕ → ℕ → Bool) {f p q : ℕ} (none : None (somewhere sizes test) f) (is : p ≡ firstBelow (test f) q) (size : q ≡ sizes f) where
+module _ (n : ℕ) (sizes : ℕ → ℕ) (test : ℕ → ℕ → Bool) {f p q : ℕ} (none : None (somewhere sizes test) f)
+    (is : p ≡ firstBelow (test f) q) (size : q ≡ sizes f) where
   all : p ≡ firstBelow (test f) (sizes f)
   all = is ∙ ap (firstBelow (test f)) size
 

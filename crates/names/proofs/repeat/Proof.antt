@@ -15,13 +15,16 @@ abbrev μ-loop : tie.MeasureT-loop
 
 returns : tie.Need-returns Inv-loop μ-loop
 returns c =
-    let l = c .before .before .before .before in
-    clear-hit (l .before .before .before .pre) (omega arith) (l .loop .inv .1) (c .before .before .part .ensures) (c .before .first-again .ensures) (c .if1 .taken)
+    let w = c .before in
+    let l = w .before .before .before in
+    clear-hit (l .before .before .before .pre) (omega arith) (l .loop .inv .1) (w .before .part .ensures) (w .first-again .ensures) (c .if1 .taken)
 
 loop-again : tie.Need-loop-again Inv-loop μ-loop
 loop-again c =
-    let l = c .before .before .before .before in
-    (omega arith, clear-more (l .before .before .before .pre) (omega arith) (l .loop .inv .1) (c .before .before .part .ensures) (c .before .first-again .ensures) (c .if1 .left))
+    let w = c .before in
+    let l = w .before .before .before in
+    let laid = l .before .before .before .pre in
+    (omega arith, clear-more laid (omega arith) (l .loop .inv .1) (w .before .part .ensures) (w .first-again .ensures) (c .if1 .left))
 
 pub repeat-spec : {M : Type 1} → statement M
 repeat-spec =

@@ -36,7 +36,8 @@ returns-2 c =
 
 end-small : tie.Need-end-at-requires-2
 end-small c κs =
-    let a = c .before .before .before .before .before in
+    let t = c .before .before .before in
+    let a = t .before .before in
     let (index, l) = a .before .before .before .pre in
     rw (a .across-at .ensures) (small index (across-at-below index l))
 

@@ -15,6 +15,18 @@ Inv-loop corners begins edges heads p₀ p = (p ≤ length corners) × None (una
 abbrev μ-loop : tie.MeasureT-loop
 μ-loop corners begins edges heads p₀ p = length corners - p
 
+returns : tie.Need-returns Inv-loop μ-loop
+returns c =
+    let u = c .before in
+    let (upto, none, index) = u .before .before .loop .inv in
+    any-hit none (sym (u .is-unanswered .ensures) ∙ c .if1 .taken) (omega arith)
+
+loop-again : tie.Need-loop-again Inv-loop μ-loop
+loop-again c =
+    let u = c .before in
+    let (upto, none, index) = u .before .before .loop .inv in
+    (omega arith, none-more none (sym (u .is-unanswered .ensures) ∙ c .if1 .left), index)
+
 pub some-unanswered-spec : {M : Type 1} → statement M
 some-unanswered-spec =
     tie.close
@@ -23,8 +35,8 @@ some-unanswered-spec =
     μ-loop
     (λ c. (omega arith, none-0 _, c .before .before .pre))
     (λ c κs. let (upto, none, index) = c .before .loop .inv in (index, omega arith))
-    (λ c. let (upto, none, index) = c .before .before .before .loop .inv in any-hit none (sym (c .before .is-unanswered .ensures) ∙ c .if1 .taken) (omega arith))
+    returns
     (λ c. omega arith)
     (λ c. omega arith)
-    (λ c. let (upto, none, index) = c .before .before .before .loop .inv in (omega arith, none-more none (sym (c .before .is-unanswered .ensures) ∙ c .if1 .left), index))
+    loop-again
     (λ c. let (upto, none, index) = c .before .loop .inv in any-miss none (omega arith) (omega arith)))

@@ -28,7 +28,8 @@ add-n : tie.Need-add-n Inv-loop μ-loop
 add-n c =
     let e = c .before in
     let l = e .before .before in
-    let s = l .before .before .before .before .before in
+    let w = l .before .before in
+    let s = w .before .before .before in
     omega (arith, c .same .ensures, bit-le (eqb (e .end-at .result) (s .args .b)), counting-few (l .loop .inv))
 
 loop-again : tie.Need-loop-again Inv-loop μ-loop

@@ -5,21 +5,27 @@ use Rattle.tables.specs.Places.{end-in-run}
 use Rattle.tables.proofs.part.Statement.{statement}
 use Rattle.tables.proofs.part.Tie as tie
 
+abbrev start : tie.After-wide → tie.Start
+start c = c .before .before .before .before
+
 sub-result : tie.Need-sub-result
 sub-result c =
-    let s = c .before .before .before .before .before .before in
-    omega (arith, s .pre .0 .rise (s .args .f) (omega (arith, s .pre .0 .some)), c .before .before .wide .ensures .is, c .wide2 .ensures .is)
+    let w = c .before .before in
+    let s = start w in
+    let (laid, below) = s .pre in
+    omega (arith, laid .rise (s .args .f) (omega (arith, laid .some)), w .wide .ensures .is, c .wide2 .ensures .is)
 
 part-result-start : tie.Need-part-result-start
 part-result-start c =
-    let s = c .before .before .before .before .before .before in
-    let l = s .pre .0 in
-    omega (arith, l .rise (s .args .f) (omega (arith, l .some)), end-in-run l (s .pre .1), c .before .before .wide .ensures .is)
+    let w = c .before .before in
+    let s = start w in
+    let (laid, below) = s .pre in
+    omega (arith, laid .rise (s .args .f) (omega (arith, laid .some)), end-in-run laid below, w .wide .ensures .is)
 
 part-result-end : tie.Need-part-result-end
 part-result-end c =
-    let s = c .before .before .before .before .before .before in
-    omega (arith, end-in-run (s .pre .0) (s .pre .1), c .wide2 .ensures .is)
+    let (laid, below) = start (c .before .before) .pre in
+    omega (arith, end-in-run laid below, c .wide2 .ensures .is)
 
 returns : tie.Need-returns
 returns c = rw (c .before .wide2 .ensures .is, c .before .before .before .wide .ensures .is)

@@ -14,7 +14,8 @@ returns c = rw (← (c .before .wrong-lengths .ensures), c .if1 .taken)
 wrong-ends-requires : tie.Need-wrong-ends-requires
 wrong-ends-requires c κs =
     let a = c .before .before .before .before .args in
-    omega (arith, counted (length (a .points .now)) (length (a .corners .now)) (length (a .begins .now)) (sym (c .before .wrong-lengths .ensures) ∙ c .if1 .left) .some)
+    let right = sym (c .before .wrong-lengths .ensures) ∙ c .if1 .left in
+    omega (arith, counted (length (a .points .now)) (length (a .corners .now)) (length (a .begins .now)) right .some)
 
 returns-2 : tie.Need-returns-2
 unfolding isSize
@@ -26,7 +27,8 @@ some-wrong-sides-requires : tie.Need-some-wrong-sides-requires
 some-wrong-sides-requires c κs =
     let b = c .before .before in
     let a = b .before .before .before .before .args in
-    omega (arith, counted (length (a .points .now)) (length (a .corners .now)) (length (a .begins .now)) (sym (b .before .wrong-lengths .ensures) ∙ b .if1 .left) .some)
+    let right = sym (b .before .wrong-lengths .ensures) ∙ b .if1 .left in
+    omega (arith, counted (length (a .points .now)) (length (a .corners .now)) (length (a .begins .now)) right .some)
 
 returns-3 : tie.Need-returns-3
 unfolding isSize
