@@ -7,7 +7,7 @@ use native.Mathlib.Omega.{arith}
 use lib.ListN.{length}
 use Rattle.whole.specs.Filled.{Blank}
 use Rattle.whole.specs.Rounds.{at, first, arc}
-use Rattle.whole.specs.Flood.{blankRow, entryAt, marked, Queue, Pushing, Push, Spread, Flood, Flooded, queue-0, tail-le, pushing}
+use Rattle.whole.specs.Flood.{vacant, entryAt, marked, Queue, Pushing, Push, Spread, Flood, Flooded, queue-0, tail-le, pushing}
 use Rattle.whole.specs.Flood.{push, spread-0, spread-more, flood-0, flood-more, flood-end}
 use Rattle.tables.specs.Tables.{mostFacets, mostCorners, facets, begin, end, homeOf}
 use Rattle.tables.specs.Places.{In, home, home-is, in-facet}
@@ -111,7 +111,7 @@ pub record Reaching (corners begins : List ℕ) (edges : List (List ℕ)) (heads
   pub flood : Flood mostFacets (length corners) (facets begins) (homeOf begins) (facetAcross corners begins) queue head tail
 
 module _ {corners begins : List ℕ} {edges : List (List ℕ)} {heads : List ℕ} (C : Crossed corners begins edges heads) {queue : List (List ℕ)}
-    (b : Blank blankRow mostFacets queue) where
+    (b : Blank vacant mostFacets queue) where
   queued-0 : Queued corners begins queue 0
   queued-0 = queue-0 (Reached corners begins) (few C) b
 

@@ -1,7 +1,7 @@
 // Number 8, APART: every facet is reached from facet 0 across edges.
 ghost use mathlib.Core.Path.{_≡_};
 ghost use Rattle.whole.specs.Filled.{Blank};
-ghost use Rattle.whole.specs.Flood.{blankRow, Pushing, Push};
+ghost use Rattle.whole.specs.Flood.{vacant, Pushing, Push};
 ghost use Rattle.tables.specs.Tables.{mostFacets, end};
 ghost use Rattle.pair.specs.Across.{Crossed};
 ghost use Rattle.apart.specs.Apart.{apart};
@@ -60,7 +60,7 @@ fn reach(
     queue: &mut Queue,
 )
     requires { ⌜ Crossed (now corners) (now begins) (now edges) (now heads) ⌝ }
-    requires { ⌜ Blank blankRow mostFacets (now queue) ⌝ }
+    requires { ⌜ Blank vacant mostFacets (now queue) ⌝ }
     ensures { λ _. ⌜ ReachMarks (now (corners .entry)) (now (begins .entry)) (now (queue .exit)) ⌝ }
 {
     let mut tail = push(queue, 0, 0);

@@ -8,7 +8,7 @@ ghost use Rattle.writer.specs.Answer.{written, bufferAfter};
 ghost use Rattle.direction.specs.Direction.{direction};
 ghost use Rattle.walk.specs.Walk.{walked, trailAfter};
 ghost use Rattle.out.specs.Noted.{noted};
-ghost use Rattle.notes.specs.Told.{places, course, counts, place};
+ghost use Rattle.notes.specs.Out.{places, course, counts, place};
 
 // The judge of a solid. `out` gets the three places, and the number is returned.
 #[no_mangle]

@@ -1,2 +1,2 @@
 -- What the functions for Rust and C tell of an answer.
-pub mod Told
+pub mod Out

@@ -1,6 +1,6 @@
 // What the functions for Rust and C tell of an answer: its number is returned, and its other values are noted in `out`.
 ghost use Rattle.reading.specs.Answer.{answerNumber};
-ghost use Rattle.notes.specs.Told.{Told, places, course, counts, place};
+ghost use Rattle.notes.specs.Out.{Told, places, course, counts, place};
 
 // The judge's answer, or the tape writer's: the three places.
 pub fn note_answer(out: &mut [i64], answer: answers::Answer) -> u16

@@ -33,7 +33,7 @@ pub record Passed (points : List ℤ) (corners begins : List ℕ) : Type 0 where
   pub reflex : Reflex (tablesOf points corners begins)
 
 -- .. and their index
-pub record Ready (points : List ℤ) (corners begins : List ℕ) (edges : List (List ℕ)) (heads : List ℕ) : Type 0 where
+pub record Scannable (points : List ℤ) (corners begins : List ℕ) (edges : List (List ℕ)) (heads : List ℕ) : Type 0 where
   pub passed : Passed points corners begins
   pub indexed : Indexed corners begins edges heads
 
@@ -82,7 +82,7 @@ near-enough {points} p e =
     (local-global (sized-tables points (m .sound)) (ranged m) (p .closed) (p .flat) (p .reflex) (neighbours m e))
 
 -- as the code says it: t is what the local test answers
-pub passed-over : {points : List ℤ} {corners begins : List ℕ} {edges : List (List ℕ)} {heads : List ℕ} {t : Bool} → Ready points corners begins edges heads
+pub passed-over : {points : List ℤ} {corners begins : List ℕ} {edges : List (List ℕ)} {heads : List ℕ} {t : Bool} → Scannable points corners begins edges heads
     → t ≡ near points corners begins → not t ≡ true → Nothing ≡ outside points corners begins
 passed-over R is e = sym (near-enough (R .passed) (sym is ∙ not-true _ e))
 

@@ -7,7 +7,7 @@ ghost use Rattle.tables.specs.Tables.{mostVertices, facets};
 ghost use Rattle.flat.specs.Facet.{Facet, Measured};
 ghost use Rattle.outside.specs.Rules.{isOutside, outside};
 ghost use Rattle.outside.specs.Near.{Neighboured, nearFacet, near};
-ghost use Rattle.outside.specs.Passed.{Ready};
+ghost use Rattle.outside.specs.Passed.{Scannable};
 
 // OUTSIDE at vertex v of a facet.
 fn is_outside(points: &[i32], part: &[u16], v: u16) -> bool
@@ -116,7 +116,7 @@ pub fn outside(
     edges: &index::Edges,
     heads: &index::Heads,
 ) -> tables::Found
-    requires { ⌜ Ready (now points) (now corners) (now begins) (now edges) (now heads) ⌝ }
+    requires { ⌜ Scannable (now points) (now corners) (now begins) (now edges) (now heads) ⌝ }
     ensures { λ r. ⌜ r ≡ outside (now (points .entry)) (now (corners .entry)) (now (begins .entry)) ⌝ }
 {
     if MOST_SCANNED < points.len() / 3 {

@@ -20,8 +20,8 @@ markAt queue g = cell queue g 0
 abbrev pub entryAt : List (List ℕ) → ℕ → ℕ
 entryAt queue i = cell queue i 1
 
-abbrev pub blankRow : List ℕ
-blankRow = 0 ∷ 0 ∷ []
+abbrev pub vacant : List ℕ
+vacant = 0 ∷ 0 ∷ []
 
 abbrev pub marked : List (List ℕ) → ℕ → Bool
 marked queue g = not (eqb (markAt queue g) 0)
@@ -214,19 +214,19 @@ pub record Flood (size n m : ℕ) (a b : ℕ → ℕ) (queue : List (List ℕ)) 
   pub start : marked queue 0 ≡ true
   pub done : (i p : ℕ) → i < head → p < n → a p ≡ entryAt queue i → marked queue (b p) ≡ true
 
-pub queue-0 : {size m : ℕ} (R : ℕ → Type 0) {queue : List (List ℕ)} → m ≤ size → Blank blankRow size queue → Queue size m R queue 0
+pub queue-0 : {size m : ℕ} (R : ℕ → Type 0) {queue : List (List ℕ)} → m ≤ size → Blank vacant size queue → Queue size m R queue 0
 unfolding countBelow
 queue-0 {size} {m} R f e = rw e (record {
-  cells = cells-0 size blankRow;
+  cells = cells-0 size vacant;
   fits = f;
-  count = gap (marked (replicate size blankRow)) 0 m (omega arith) (λ g k l. unmarked g l) .count;
+  count = gap (marked (replicate size vacant)) 0 m (omega arith) (λ g k l. unmarked g l) .count;
   below = λ i l. absurd (omega arith);
   reach = λ i l. absurd (omega arith);
   listed = λ g l e. absurd (true≢false (sym e ∙ unmarked g l));
 })
   where
-    unmarked : (g : ℕ) → g < m → marked (replicate size blankRow) g ≡ false
-    unmarked g l = rw (getD-replicate {A = List ℕ} size g blankRow [] (omega (arith, f)))
+    unmarked : (g : ℕ) → g < m → marked (replicate size vacant) g ≡ false
+    unmarked g l = rw (getD-replicate {A = List ℕ} size g vacant [] (omega (arith, f)))
 
 pub flood-0 : {size n m : ℕ} {a b : ℕ → ℕ} {queue queue′ : List (List ℕ)} {tail tail′ : ℕ}
     → Pushed size m (Reached n a b) queue tail queue′ tail′ 0 → Flood size n m a b queue′ 0 tail′
