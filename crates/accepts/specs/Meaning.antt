@@ -22,9 +22,9 @@ use Rattle.shape.specs.Folds.{reflex-none}
 use Rattle.outside.specs.Meaning.{inside, inside-outside}
 use Rattle.solid.specs.Tables.{Convex, Corner, OnPlane, volume}
 use Rattle.solid.specs.Theorems as Solid
-use Rattle.stages.specs.Known.{measured}
+use Rattle.stages.specs.Known.{measured, after-3, measured-after}
 use Rattle.judge.specs.Judge.{rules, judged}
-use Rattle.judge.specs.Stages.{after-3, measured-after, closed-after, none-broken}
+use Rattle.judge.specs.Stages.{closed-after, none-broken}
 
 -- every rule of the list applies nowhere
 abbrev pub Faultless : List ℤ → List ℕ → List ℕ → Type 0

@@ -1,44 +1,26 @@
 -- What is known of tables that pass all rules, or all but the last. Assumes nothing.
 use mathlib.Core.Path.{_≡_, refl}
-use mathlib.Core.List.{List, [], _∷_}
+use mathlib.Core.List.{List}
 use mathlib.Core.Bool.{true}
-use Prim.Native.Nat.{ℕ, _≤_, _<_}
+use Prim.Native.Nat.{ℕ, _≤_}
 use native.Mathlib.Omega.{arith}
 use lib.IntN.{ℤ}
-use Rattle.points.specs.Points.{vertices}
-use Rattle.tables.specs.Size.{isSize}
 use Rattle.answers.specs.Answer.{numberOf}
-use Rattle.answers.specs.Order.{Passes, whole, never, firstOf, numbered, number-0}
+use Rattle.answers.specs.Order.{Passes, firstOf, numbered, number-0}
 use Rattle.answers.specs.declared.Fault.the-variants.{None}
-use Rattle.limits.specs.InOrder.{InOrder}
-use Rattle.pair.specs.Pair.{Paired, pair-none}
 use Rattle.bridge.specs.Surface.{tablesOf}
 use Rattle.bridge.specs.Closed.{is-closed}
-use Rattle.flat.specs.Facet.{Measured}
 use Rattle.shape.specs.Flat.{flat}
 use Rattle.shape.specs.Folds.{no-reflex}
 use Rattle.outside.specs.Passed.{Passed}
 use Rattle.solid.specs.Tables.{Closed}
-use Rattle.stages.specs.Known.{measured}
+use Rattle.stages.specs.Known.{measured-after, paired-after}
 use Rattle.judge.specs.Judge.{rules}
 
 -- of tables that pass the first n rules
 module _ (points : List ℤ) (corners begins : List ℕ) {n : ℕ} (P : Passes (rules points corners begins) n) where
-  pub after-3 : 3 ≤ n → InOrder points corners begins
-  after-3 l = record {
-    sizes = never (whole (isSize points corners begins)) (P .none 0 (omega arith));
-    ranges = P .none 1 (omega arith);
-    numbers = P .none 2 (omega arith);
-  }
-
-  pub measured-after : 3 ≤ n → Measured points corners begins
-  measured-after l = measured (after-3 l)
-
-  pub paired-after : 6 ≤ n → Paired corners begins
-  paired-after l = pair-none (measured-after (omega arith) .sound .laid) (P .none 5 (omega arith))
-
   pub closed-after : 8 ≤ n → Closed (tablesOf points corners begins)
-  closed-after l = is-closed points (measured-after (omega arith) .sound) (record {
+  closed-after l = is-closed points (measured-after points corners begins P (omega arith) .sound) (record {
     no-4 = P .none 3 (omega arith);
     no-5 = P .none 4 (omega arith);
     no-6 = P .none 5 (omega arith);
@@ -48,13 +30,13 @@ module _ (points : List ℤ) (corners begins : List ℕ) {n : ℕ} (P : Passes (
 
   pub passed-after : 11 ≤ n → Passed points corners begins
   passed-after l =
-      let m = measured-after (omega arith) in
+      let m = measured-after points corners begins P (omega arith) in
       let laid = m .sound .laid in
       record {
         measured = m;
         closed = closed-after (omega arith);
         flat = flat points laid (P .none 8 (omega arith)) (P .none 9 (omega arith));
-        reflex = no-reflex points laid (paired-after (omega arith)) (P .none 10 (omega arith));
+        reflex = no-reflex points laid (paired-after points corners begins P (omega arith)) (P .none 10 (omega arith));
       }
 
 pub all-numbered : (points : List ℤ) (corners begins : List ℕ) → numbered (rules points corners begins) ≡ true

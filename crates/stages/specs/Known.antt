@@ -1,11 +1,11 @@
 -- What is known of the tables on the way, after the first rules passed. Assumes nothing.
 use mathlib.Core.Path.{_≡_}
-use mathlib.Core.List.{List}
+use mathlib.Core.List.{List, _++_}
 use Prim.Native.Nat.{ℕ, _≤_}
 use native.Mathlib.Omega.{arith}
 use lib.IntN.{ℤ}
 use Rattle.tables.specs.Size.{isSize}
-use Rattle.answers.specs.Order.{Passes, whole, never}
+use Rattle.answers.specs.Order.{Rule, Passes, whole, never}
 use Rattle.answers.specs.declared.Fault.{Fault}
 use Rattle.answers.specs.declared.Fault.the-variants.{Breaks, None}
 use Rattle.limits.specs.Rules.{in-limits}
@@ -19,8 +19,8 @@ use Rattle.stages.specs.Rules.{rulesToTurn}
 pub measured : {points : List ℤ} {corners begins : List ℕ} → InOrder points corners begins → Measured points corners begins
 measured {points} o = record { ranged = in-limits points (o .ranges); sound = all-sound points (o .sizes) (o .numbers) }
 
--- of tables that pass the first n rules
-module _ (points : List ℤ) (corners begins : List ℕ) {n : ℕ} (P : Passes (rulesToTurn points corners begins) n) where
+-- of tables that pass the first n rules, whatever rules come after these
+module _ (points : List ℤ) (corners begins : List ℕ) {later : List Rule} {n : ℕ} (P : Passes (rulesToTurn points corners begins ++ later) n) where
   pub after-3 : 3 ≤ n → InOrder points corners begins
   after-3 l = record {
     sizes = never (whole (isSize points corners begins)) (P .none 0 (omega arith));

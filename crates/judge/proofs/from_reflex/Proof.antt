@@ -5,7 +5,8 @@ use mathlib.Core.List.{List}
 use native.Mathlib.Omega.{arith}
 use Rattle.answers.specs.Order.{Rule, Passes, passes-more, first-here, none-later}
 use Rattle.judge.specs.Judge.{rules}
-use Rattle.judge.specs.Stages.{measured-after, paired-after, passed-after}
+use Rattle.stages.specs.Known.{measured-after, paired-after}
+use Rattle.judge.specs.Stages.{passed-after}
 use Rattle.judge.proofs.from_reflex.Statement.{statement}
 use Rattle.judge.proofs.from_reflex.Tie as tie
 

@@ -4,7 +4,8 @@ use native.Mathlib.Omega.{arith}
 use Rattle.answers.specs.Answer.{answerOf, numberOf, answer-number}
 use Rattle.answers.specs.Order.{all-pass}
 use Rattle.judge.specs.Judge.{rules, judged}
-use Rattle.judge.specs.Stages.{measured-after, none-broken}
+use Rattle.stages.specs.Known.{measured-after}
+use Rattle.judge.specs.Stages.{none-broken}
 use Rattle.judge.proofs.judge_with_index.Statement.{statement}
 use Rattle.judge.proofs.judge_with_index.Tie as tie
 
