@@ -1,13 +1,16 @@
 -- The sheet's table of answer numbers: each row's number is given exactly when the row says and no number below it applies, at its first place.
 -- The rows are the entries of `rules` (judge/specs/Judge.antt), each under its sentence. Assumes nothing.
-use mathlib.Core.Path.{_≡_, sym, ap, _∙_}
+use mathlib.Core.Path.{_≡_, refl, ap}
+use mathlib.Core.Bool.{true}
 use mathlib.Core.List.{List}
-use Prim.Native.Nat.{ℕ}
+use Prim.Native.Nat.{ℕ, _≤_, _<_}
 use lib.IntN.{ℤ}
 use Rattle.answers.specs.Answer.{answerOf}
-use Rattle.answers.specs.Order.{Given, given, given-is, firstOf}
+use Rattle.tables.specs.declared.Found.the-variants.{At}
+use Rattle.answers.specs.Order.{Given, given, given-is, firstOf, placeAt, numberAt, above, ascending, lowest-wins}
 use Rattle.answers.specs.declared.Answer.{Answer}
 use Rattle.answers.specs.declared.Fault.{Fault}
+use Rattle.answers.specs.declared.Fault.the-variants.{Breaks}
 use Rattle.judge.specs.Judge.{rules, judged}
 
 module _ (points : List ℤ) (corners begins : List ℕ) where
@@ -24,3 +27,12 @@ module _ (points : List ℤ) (corners begins : List ℕ) where
   pub row-is : {r : Answer} → Row r → r ≡ judged points corners begins
   unfolding judged
   row-is (given-by g) = ap (answerOf points corners begins) (given-is g)
+
+  -- "The lowest number that applies anywhere in the tables wins"
+  pub rules-ascend : ascending (rules points corners begins) ≡ true
+  unfolding ascending above
+  rules-ascend = refl
+
+  pub lowest-number : {number a b c d : ℕ} → firstOf (rules points corners begins) ≡ Breaks number a b
+      → (i : ℕ) → i < 12 → placeAt (rules points corners begins) i ≡ At c d → number ≤ numberAt (rules points corners begins) i
+  lowest-number = lowest-wins (rules points corners begins) rules-ascend

@@ -2,14 +2,14 @@
 use mathlib.Core.Path.{_≡_, refl, sym, ap, _∙_}
 use mathlib.Core.Bool.{Bool, true, false, cond, true≢false}
 use mathlib.Core.List.{List, [], _∷_, _++_}
-use Prim.Native.Nat.{ℕ, zero, suc, _+_, _<_}
+use Prim.Native.Nat.{ℕ, zero, suc, _+_, _≤_, _<_}
 use native.Mathlib.Omega.{arith}
 use native.Mathlib.Decide.{decLt}
 use lib.Dec.{ltb}
 use lib.ListN.{length}
 use borrow.Author.Tests.{ltb-true}
 use Rattle.tables.specs.Found.{lowest, firstPlace, Lowest, First, Nowhere, NoPlace, Searched, Sought, found-at, found-none, place-at, place-none}
-use Rattle.tables.specs.Found.{searched, sought, lowest-is, nowhere-is, first-is, no-place-is}
+use Rattle.tables.specs.Found.{searched, sought, lowest-none, first-none, lowest-is, nowhere-is, first-is, no-place-is}
 use Rattle.tables.specs.declared.Found.{Found}
 use Rattle.tables.specs.declared.Found.the-variants.{At, Nothing}
 use Rattle.answers.specs.Answer.{numberOf}
@@ -67,16 +67,8 @@ at-first (within n counts test) h = first-is h
 pub never : (s : Search) → place s ≡ Nothing → Never s
 never (whole true) e = absurd (differ e)
 never (whole false) e = refl
-never (each n test) e = go (searched n test) e
-  where
-    go : {r : Found} → Searched n test r → r ≡ Nothing → Nowhere n test
-    go (found-at h) e = absurd (differ e)
-    go (found-none h) e = h
-never (within n counts test) e = go (sought n counts test) e
-  where
-    go : {r : Found} → Sought n counts test r → r ≡ Nothing → NoPlace n counts test
-    go (place-at h) e = absurd (differ e)
-    go (place-none h) e = h
+never (each n test) e = lowest-none n test e
+never (within n counts test) e = first-none n counts test e
 
 pub nothing : (s : Search) → Never s → place s ≡ Nothing
 nothing (whole test) h = rw h
@@ -221,3 +213,41 @@ number-0 (r ∷ rs) n e = go (number-0 rs) (place (r .search)) (ltb 0 (r .number
     go h p false s n e = absurd (true≢false (sym n))
     go h (At a b) true s n e = absurd (omega (arith, ltb-true 0 (r .number) s))
     go h Nothing true s n e = h n e
+
+-- ---- the lowest number wins
+
+-- every number of the list is above n
+unfoldable pub above : ℕ → List Rule → Bool
+above n [] = true
+above n (r ∷ rs) = cond (ltb n (r .number)) (above n rs) false
+
+unfoldable pub ascending : List Rule → Bool
+ascending [] = true
+ascending (r ∷ rs) = cond (above (r .number) rs) (ascending rs) false
+
+split : (s t : Bool) → cond s t false ≡ true → (s ≡ true) × (t ≡ true)
+split true t e = (refl, e)
+split false t e = absurd (true≢false (sym e))
+
+above-each : (n : ℕ) (rs : List Rule) → above n rs ≡ true → (i : ℕ) → i < length rs → n < numberAt rs i
+unfolding above
+above-each n [] e i l = absurd (omega arith)
+above-each n (r ∷ rs) e zero l = let (h, k) = split (ltb n (r .number)) (above n rs) e in ltb-true n (r .number) h
+above-each n (r ∷ rs) e (suc i) l = let (h, k) = split (ltb n (r .number)) (above n rs) e in above-each n rs k i (omega arith)
+
+-- "The lowest number that applies anywhere in the tables wins": no rule that applies has a lower number than the first fault
+pub lowest-wins : (rs : List Rule) → ascending rs ≡ true → {number a b c d : ℕ} → firstOf rs ≡ Breaks number a b
+    → (i : ℕ) → i < length rs → placeAt rs i ≡ At c d → number ≤ numberAt rs i
+unfolding firstOf ascending
+lowest-wins [] s e i l p = absurd (omega arith)
+lowest-wins (r ∷ rs) s e i l p =
+    let (h, k) = split (above (r .number) rs) (ascending rs) s in
+    go (λ e j m q. lowest-wins rs k e j m q) (above-each (r .number) rs h) (place (r .search)) refl e i l p
+  where
+    go : {number a b c d : ℕ} → (firstOf rs ≡ Breaks number a b → (j : ℕ) → j < length rs → placeAt rs j ≡ At c d → number ≤ numberAt rs j)
+        → ((j : ℕ) → j < length rs → r .number < numberAt rs j) → (x : Found) → place (r .search) ≡ x → orElse (r .number) x (firstOf rs) ≡ Breaks number a b
+        → (i : ℕ) → i < length (r ∷ rs) → placeAt (r ∷ rs) i ≡ At c d → number ≤ numberAt (r ∷ rs) i
+    go {number} h up (At x y) s e zero l p = let z : r .number ≡ number = cc in omega arith
+    go {number} h up (At x y) s e (suc i) l p = let z : r .number ≡ number = cc in omega (arith, up i (omega arith))
+    go h up Nothing s e zero l p = absurd (differ (sym p ∙ s))
+    go h up Nothing s e (suc i) l p = h e i (omega arith) p

@@ -37,7 +37,7 @@ pub fn fill_facets(tape: &[u8], from: usize, corners: &mut [u16], begins: &mut [
     ensures { λ _. ⌜ now (corners .exit) ≡ over (cornersAt (now (tape .entry)) from n) (now (corners .entry)) ⌝ }
     ensures { λ _. ⌜ now (begins .exit) ≡ over (beginsAt (now (tape .entry)) from (n + 1)) (now (begins .entry)) ⌝ }
 {
-    let mut tray = [0u16; 12];
+    let mut tray = [0u16; tables::MOST_SIDES];
     let mut at = from;
     let mut c = 0;
     let mut f = 0;

@@ -25,7 +25,7 @@ use Rattle.farthest.specs.Neighbours.{neighbour-edge, edge-neighbour}
 use Rattle.climb.specs.Course.{after, finish, stood, trailed}
 use Rattle.climb.specs.Rise.{Ends, ends, stood-length, stood-at}
 use Rattle.walk.specs.Walk.{arrived, walked, trailAfter}
-use Rattle.walk.specs.Meaning.{Granted, ARRIVED, told-is}
+use Rattle.walk.specs.Meaning.{Granted, ARRIVED, walk-end-is}
 use Rattle.direction.specs.declared.Direction.{Direction}
 use Rattle.climb.specs.declared.Standing.{Standing}
 use Rattle.walk.specs.declared.Walked.{Walked}
@@ -141,6 +141,6 @@ module _ (points : List ℤ) (corners begins : List ℕ) (d : Direction) (start 
       → Demand3 (walked points corners begins d start trail) (trailAfter points corners begins d start trail)
   demand-3 G =
       let (k, E) = ends points corners begins d start (G .corner) in
-      let (a, b) = told-is points corners begins d start trail (ARRIVED G) in
+      let (a, b) = walk-end-is points corners begins d start trail (ARRIVED G) in
       subst (λ x. Demand3 x (trailAfter points corners begins d start trail)) (sym (answer-is E G) ∙ a)
       (subst (λ x. Demand3 (r E) x) (sym (trail-is E G) ∙ b) (met E G))

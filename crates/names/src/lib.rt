@@ -4,10 +4,9 @@ ghost use Prim.Native.Nat.{_≤_, _<_};
 ghost use lib.ListN.{length};
 ghost use Rattle.whole.specs.First.{firstBelow};
 ghost use Rattle.tables.specs.Tables.{mostVertices};
-ghost use Rattle.names.specs.Rules.{isAt, again};
+ghost use Rattle.names.specs.Rules.{isAt, again, repeat, unused};
 ghost use Rattle.tables.specs.Size.{Laid};
 ghost use Rattle.tables.specs.Places.{Named};
-ghost use Rattle.names.specs.Rules.{repeat, unused};
 ghost use Rattle.names.specs.Marks.{Marks};
 
 // The first position below n at which v stands, or n.

@@ -10,7 +10,7 @@ use Rattle.reading.specs.declared.Reading.the-variants.{Read, Refused}
 use Rattle.judge.specs.Judge.{judged}
 use Rattle.accepts.specs.Meaning.{is-measured}
 use Rattle.walk.specs.Walk.{walked}
-use Rattle.walk.specs.Meaning.{Told, told-is}
+use Rattle.walk.specs.Meaning.{WalkEnd, walk-end-is}
 use Rattle.walk.specs.declared.Walked.{Walked}
 use Rattle.lines.specs.Line.{numberOf}
 use Rattle.walk_tape.specs.Tape.{trail, walkedTape}
@@ -40,9 +40,9 @@ module _ (tape input : List ℕ) where
     unfolding walkedTape
     is-walked = rw read
 
-    -- every outcome of the walk, with the row that says when
-    pub by-row : {r : Walked} {t : List ℕ} → Told points corners begins (directionIn input) (startIn input) trail r t → walkNumbers tape input ≡ movesOf r
-    by-row x = ap movesOf (is-walked ∙ sym (told-is points corners begins (directionIn input) (startIn input) trail x .0))
+    -- every outcome of the walk, with what says when
+    pub by-end : {r : Walked} {t : List ℕ} → WalkEnd points corners begins (directionIn input) (startIn input) trail r t → walkNumbers tape input ≡ movesOf r
+    by-end x = ap movesOf (is-walked ∙ sym (walk-end-is points corners begins (directionIn input) (startIn input) trail x .0))
 
     -- the trail has room, so 15 is never given
     pub has-room : judged points corners begins .number ≡ 0 → vertices points ≤ length trail

@@ -4,11 +4,10 @@ use Prim.Native.Nat.{ℕ, _+_}
 use lib.IntN.{ℤ}
 use Rattle.points.specs.Points.{vertices}
 use Rattle.tables.specs.Tables.{facets, begin, sides}
-use Rattle.names.specs.Rules.{again}
+use Rattle.names.specs.Rules.{again, unnamed}
 use Rattle.tables.specs.Facets.{onFacets}
 use Rattle.answers.specs.Order.{Rule, rule, each, within}
 use Rattle.limits.specs.InOrder.{limitRules}
-use Rattle.names.specs.Rules.{unnamed}
 use Rattle.pair.specs.Pair.{unpaired}
 use Rattle.ring.specs.Ring.{broken}
 use Rattle.apart.specs.Apart.{isApart}

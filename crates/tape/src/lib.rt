@@ -1,4 +1,4 @@
-// The tape: its little-endian numbers, and what stands at an offset.
+// The tape: its little-endian numbers, and the kinds of its records.
 ghost use mathlib.Core.Path.{_≡_};
 ghost use Prim.Native.Nat.{_+_, _<_};
 ghost use lib.ListN.{length};

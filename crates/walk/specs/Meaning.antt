@@ -1,4 +1,4 @@
--- The walk's outcomes: each is given exactly when its told says, and no two fit the promise. Assumes nothing.
+-- The walk's outcomes: each is given exactly when its constructor says, and no two fit the promise. Assumes nothing.
 use mathlib.Core.Path.{_≡_, refl, sym, ap, _∙_, subst}
 use mathlib.Core.Logic.{_↔_}
 use mathlib.Core.Bool.{Bool, true, false}
@@ -35,17 +35,17 @@ module _ (points : List ℤ) (corners begins : List ℕ) (d : Direction) (start 
     pub room : vertices points ≤ length trail
 
   -- an answer, and what the trail then holds
-  pub data Told : Walked → List ℕ → Type 0 where
+  pub data WalkEnd : Walked → List ℕ → Type 0 where
     -- "1 to 12 as the judge gives"
-    JUDGED : ¬ Accepted → Told (halted (judged points corners begins)) trail
+    JUDGED : ¬ Accepted → WalkEnd (halted (judged points corners begins)) trail
     -- "13 START, start is V or more"
-    START : Accepted → vertices points ≤ start → Told (halted (refused 13)) trail
+    START : Accepted → vertices points ≤ start → WalkEnd (halted (refused 13)) trail
     -- "14 DIRECTION, a part outside -32,767 to 32,767"
-    DIRECTION : Accepted → start < vertices points → ¬ Permitted d → Told (halted (refused 14)) trail
+    DIRECTION : Accepted → start < vertices points → ¬ Permitted d → WalkEnd (halted (refused 14)) trail
     -- "15 TRAIL, fewer than V entries"
-    TRAIL : Accepted → start < vertices points → Permitted d → length trail < vertices points → Told (halted (refused 15)) trail
+    TRAIL : Accepted → start < vertices points → Permitted d → length trail < vertices points → WalkEnd (halted (refused 15)) trail
     -- "The answer is last vertex, its height, moves"
-    ARRIVED : Granted → Told (arrived (finish points corners begins d start)) (trailed points corners begins d start trail)
+    ARRIVED : Granted → WalkEnd (arrived (finish points corners begins d start)) (trailed points corners begins d start trail)
 
   abbrev Outcome : Walked → List ℕ → Type 0
   Outcome r t = (r ≡ walked points corners begins d start trail) × (t ≡ trailAfter points corners begins d start trail)
@@ -54,14 +54,14 @@ module _ (points : List ℤ) (corners begins : List ℕ) (d : Direction) (start 
   unfolding walked trailAfter
   refused-by {n} e f = let z = ne-eqb (suc n) 0 (λ q. omega arith) in (rw (e, f, z), rw (e, f, z))
 
-  -- each told is the outcome ..
-  pub told-is : {r : Walked} {t : List ℕ} → Told r t → (r ≡ walked points corners begins d start trail) × (t ≡ trailAfter points corners begins d start trail)
+  -- each of them is the outcome ..
+  pub walk-end-is : {r : Walked} {t : List ℕ} → WalkEnd r t → (r ≡ walked points corners begins d start trail) × (t ≡ trailAfter points corners begins d start trail)
   unfolding walked trailAfter
-  told-is (JUDGED n) = let z = ne-eqb _ _ n in (rw (z, z), rw (z, z))
-  told-is (START e l) = refused-by e (rw (le-leb _ _ l))
-  told-is (DIRECTION e l n) = refused-by e (rw (lt-leb _ _ l, wrong-exactly d .1 n))
-  told-is (TRAIL e l p m) = refused-by e (rw (lt-leb _ _ l, not-wrong p, lt-ltb _ _ m))
-  told-is (ARRIVED G) =
+  walk-end-is (JUDGED n) = let z = ne-eqb _ _ n in (rw (z, z), rw (z, z))
+  walk-end-is (START e l) = refused-by e (rw (le-leb _ _ l))
+  walk-end-is (DIRECTION e l n) = refused-by e (rw (lt-leb _ _ l, wrong-exactly d .1 n))
+  walk-end-is (TRAIL e l p m) = refused-by e (rw (lt-leb _ _ l, not-wrong p, lt-ltb _ _ m))
+  walk-end-is (ARRIVED G) =
       let l = lt-leb _ _ (G .corner) in
       let w = not-wrong (G .permitted) in
       let m = le-ltb _ _ (G .room) in
@@ -72,15 +72,15 @@ module _ (points : List ℤ) (corners begins : List ℕ) (d : Direction) (start 
     pub granted-climbs : {edges : List (List ℕ)} {heads : List ℕ} → Indexed corners begins edges heads → Climbs points corners begins edges heads s trail
     granted-climbs I = climbs e (is-measured points corners begins (G .accepted)) (leaves-each I) (G .permitted) (G .corner) (G .room)
 
-    pub climbed-told : {w : Walked} {r : Standing} {t : List ℕ} → w ≡ arrived r → Climbed points corners begins s trail r t
+    pub climbed-end : {w : Walked} {r : Standing} {t : List ℕ} → w ≡ arrived r → Climbed points corners begins s trail r t
         → (w ≡ walked points corners begins d start trail) × (t ≡ trailAfter points corners begins d start trail)
-    climbed-told a C =
-        let (m, n) = told-is (ARRIVED G) in
+    climbed-end a C =
+        let (m, n) = walk-end-is (ARRIVED G) in
         (a ∙ ap arrived (rw e at (C .last)) ∙ m, rw e at (C .lists) ∙ n)
 
-  -- .. and the outcome is a told's
-  pub told : Told (walked points corners begins d start trail) (trailAfter points corners begins d start trail)
-  told = elim (ℕ-discrete (judged points corners begins .number) 0) [
+  -- .. and the outcome is one of them
+  pub walk-end : WalkEnd (walked points corners begins d start trail) (trailAfter points corners begins d start trail)
+  walk-end = elim (ℕ-discrete (judged points corners begins .number) 0) [
     | no n ↦ given (JUDGED n)
     | yes e ↦ elim (decLt start (vertices points)) [
       | no l ↦ given (START e (omega arith))
@@ -88,11 +88,11 @@ module _ (points : List ℤ) (corners begins : List ℕ) (d : Direction) (start 
     ]
   ]
     where
-      given : {r : Walked} {t : List ℕ} → Told r t → Told (walked points corners begins d start trail) (trailAfter points corners begins d start trail)
-      given {r} x = let (p, q) = told-is x in subst (λ s. Told s (trailAfter points corners begins d start trail)) p (subst (λ t. Told r t) q x)
+      given : {r : Walked} {t : List ℕ} → WalkEnd r t → WalkEnd (walked points corners begins d start trail) (trailAfter points corners begins d start trail)
+      given {r} x = let (p, q) = walk-end-is x in subst (λ s. WalkEnd s (trailAfter points corners begins d start trail)) p (subst (λ t. WalkEnd r t) q x)
 
       from-direction : (b : Bool) → isWrong d ≡ b → Accepted → start < vertices points
-          → Told (walked points corners begins d start trail) (trailAfter points corners begins d start trail)
+          → WalkEnd (walked points corners begins d start trail) (trailAfter points corners begins d start trail)
       from-direction true w e l = given (DIRECTION e l (wrong-exactly d .0 w))
       from-direction false w e l = elim (decLt (length trail) (vertices points)) [
         | yes m ↦ given (TRAIL e l (permitted d w) m)
@@ -102,11 +102,11 @@ module _ (points : List ℤ) (corners begins : List ℕ) (d : Direction) (start 
   -- the number is 0 exactly where all is granted
   pub granted-exactly : walked points corners begins d start trail .answer .number ≡ 0 ↔ Granted
   granted-exactly = (
-    λ e. granted told e,
-    λ G. sym (ap (λ r. r .answer .number) (told-is (ARRIVED G) .0)),
+    λ e. granted walk-end e,
+    λ G. sym (ap (λ r. r .answer .number) (walk-end-is (ARRIVED G) .0)),
   )
     where
-      granted : {r : Walked} {t : List ℕ} → Told r t → r .answer .number ≡ 0 → Granted
+      granted : {r : Walked} {t : List ℕ} → WalkEnd r t → r .answer .number ≡ 0 → Granted
       granted (JUDGED n) e = absurd (n e)
       granted (START a l) e = absurd (omega arith)
       granted (DIRECTION a l n) e = absurd (omega arith)
@@ -114,8 +114,8 @@ module _ (points : List ℤ) (corners begins : List ℕ) (d : Direction) (start 
       granted (ARRIVED G) e = G
 
   -- no two outcomes satisfy the walk's promise
-  pub one-outcome : {r s : Walked} {t u : List ℕ} → Told r t → Told s u → (r ≡ s) × (t ≡ u)
+  pub one-outcome : {r s : Walked} {t u : List ℕ} → WalkEnd r t → WalkEnd s u → (r ≡ s) × (t ≡ u)
   one-outcome x y =
-      let (p, q) = told-is x in
-      let (m, n) = told-is y in
+      let (p, q) = walk-end-is x in
+      let (m, n) = walk-end-is y in
       (p ∙ sym m, q ∙ sym n)

@@ -1,4 +1,4 @@
--- `case_show::size` meets its contract. Assumes nothing.
+-- `case_show::magnitude` meets its contract. Assumes nothing.
 use borrow.Author.Needs.{needs}
 use lib.IntN.{pos}
 use native.Mathlib.Omega.{arith}

@@ -5,21 +5,21 @@ use native.Mathlib.Omega.{arith}
 use Rattle.accepts.specs.Meaning.{is-measured}
 use Rattle.direction.specs.Direction.{permitted, wrong-exactly}
 use Rattle.walk.specs.Walk.{halted}
-use Rattle.walk.specs.Meaning.{JUDGED, START, DIRECTION, TRAIL, told-is, granted-climbs, climbed-told}
+use Rattle.walk.specs.Meaning.{JUDGED, START, DIRECTION, TRAIL, walk-end-is, granted-climbs, climbed-end}
 use Rattle.walk.proofs.walk.Statement.{statement}
 use Rattle.walk.proofs.walk.Tie as tie
 
 returns : tie.Need-returns
 returns c =
     let (answer, index) = c .before .before .before .judge-with-index .ensures in
-    let (r, t) = told-is _ _ _ _ _ _ (JUDGED (rw answer at (c .before .if1 .taken))) in
+    let (r, t) = walk-end-is _ _ _ _ _ _ (JUDGED (rw answer at (c .before .if1 .taken))) in
     (c .halted .ensures ∙ ap halted answer ∙ r, t)
 
 returns-2 : tie.Need-returns-2
 returns-2 c =
     let n = c .before .before in
     let (answer, index) = n .before .before .judge-with-index .ensures in
-    let (r, t) = told-is _ _ _ _ _ _ (START (rw answer at (n .if1 .left)) (c .before .if2 .taken)) in
+    let (r, t) = walk-end-is _ _ _ _ _ _ (START (rw answer at (n .if1 .left)) (c .before .if2 .taken)) in
     (c .refused .ensures ∙ r, t)
 
 returns-3 : tie.Need-returns-3
@@ -28,7 +28,7 @@ returns-3 c =
     let n = w .before .before in
     let (answer, index) = n .before .before .judge-with-index .ensures in
     let wrong = wrong-exactly _ .0 (sym (w .is-wrong .ensures) ∙ c .before .if3 .taken) in
-    let (r, t) = told-is _ _ _ _ _ _ (DIRECTION (rw answer at (n .if1 .left)) (w .before .if2 .left) wrong) in
+    let (r, t) = walk-end-is _ _ _ _ _ _ (DIRECTION (rw answer at (n .if1 .left)) (w .before .if2 .left) wrong) in
     (c .refused2 .ensures ∙ r, t)
 
 returns-4 : tie.Need-returns-4
@@ -38,7 +38,7 @@ returns-4 c =
     let n = w .before .before in
     let (answer, index) = n .before .before .judge-with-index .ensures in
     let right = permitted _ (sym (w .is-wrong .ensures) ∙ d .if3 .left) in
-    let (r, t) = told-is _ _ _ _ _ _ (TRAIL (rw answer at (n .if1 .left)) (w .before .if2 .left) right (c .before .if4 .taken)) in
+    let (r, t) = walk-end-is _ _ _ _ _ _ (TRAIL (rw answer at (n .if1 .left)) (w .before .if2 .left) right (c .before .if4 .taken)) in
     (c .refused3 .ensures ∙ r, t)
 
 begin-requires : tie.Need-begin-requires
@@ -79,7 +79,7 @@ returns-5 c =
     let n = w .before .before in
     let (answer, index) = n .before .before .judge-with-index .ensures in
     let right = permitted _ (sym (w .is-wrong .ensures) ∙ d .if3 .left) in
-    climbed-told _ _ _ _ _ _
+    climbed-end _ _ _ _ _ _
     (record { accepted = rw answer at (n .if1 .left); permitted = right; corner = w .before .if2 .left; room = e .if4 .left })
     (b .begin .ensures) (c .arrived .ensures) (o .climb .ensures)
 
