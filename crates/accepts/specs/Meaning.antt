@@ -10,12 +10,12 @@ use Rattle.points.specs.Points.{vertices}
 use Rattle.tables.specs.Tables.{facets, edges}
 use Rattle.tables.specs.Size.{isSize}
 use Rattle.answers.specs.Answer.{accepted, answerOf, answer-number}
-use Rattle.answers.specs.Order.{firstOf, whole, nothing, Passes, passes-0, passes-more, all-pass, none-later}
+use Rattle.answers.specs.Order.{firstOf, ofAll, never-applies, Passes, passes-0, passes-more, all-pass, none-later}
 use Rattle.answers.specs.declared.Answer.{Answer}
 use Rattle.limits.specs.InOrder.{InOrder}
 use Rattle.pair.specs.Pair.{pair-none}
 use Rattle.bridge.specs.Surface.{tablesOf, sized-tables}
-use Rattle.bridge.specs.Closed.{passes}
+use Rattle.bridge.specs.Closed.{shut}
 use Rattle.flat.specs.Facet.{Measured}
 use Rattle.shape.specs.Flat.{flat, flat-bent, flat-turn}
 use Rattle.shape.specs.Folds.{reflex-none}
@@ -56,8 +56,8 @@ module _ (points : List ℤ) (corners begins : List ℕ) where
   convex-faultless W C =
       let m = measured W in
       let laid = m .sound .laid in
-      let n = passes points (m .sound) (C .closed) in
-      let P : Passes (rules points corners begins) 1 = passes-more passes-0 (nothing (whole (isSize points corners begins)) (W .sizes)) in
+      let n = shut points (m .sound) (C .closed) in
+      let P : Passes (rules points corners begins) 1 = passes-more passes-0 (never-applies (ofAll (isSize points corners begins)) (W .sizes)) in
       let P : Passes (rules points corners begins) 2 = passes-more P (W .ranges) in
       let P : Passes (rules points corners begins) 3 = passes-more P (W .numbers) in
       let P : Passes (rules points corners begins) 4 = passes-more P (n .no-4) in

@@ -7,7 +7,7 @@ use Prim.Native.Nat.{ℕ, _≤_, _<_}
 use lib.IntN.{ℤ}
 use Rattle.answers.specs.Answer.{answerOf}
 use Rattle.tables.specs.declared.Found.the-variants.{At}
-use Rattle.answers.specs.Order.{Given, given, given-is, firstOf, placeAt, numberAt, above, ascending, lowest-wins}
+use Rattle.answers.specs.Order.{Given, given, given-is, firstOf, placeAt, ruleNumber, above, ascending, lowest-wins}
 use Rattle.answers.specs.declared.Answer.{Answer}
 use Rattle.answers.specs.declared.Fault.{Fault}
 use Rattle.answers.specs.declared.Fault.the-variants.{Breaks}
@@ -34,5 +34,5 @@ module _ (points : List ℤ) (corners begins : List ℕ) where
   rules-ascend = refl
 
   pub lowest-number : {number a b c d : ℕ} → firstOf (rules points corners begins) ≡ Breaks number a b
-      → (i : ℕ) → i < 12 → placeAt (rules points corners begins) i ≡ At c d → number ≤ numberAt (rules points corners begins) i
+      → (i : ℕ) → i < 12 → placeAt (rules points corners begins) i ≡ At c d → number ≤ ruleNumber (rules points corners begins) i
   lowest-number = lowest-wins (rules points corners begins) rules-ascend

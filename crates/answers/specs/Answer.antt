@@ -43,10 +43,10 @@ abbrev pub answerOf : List ℤ → List ℕ → List ℕ → Fault → Answer
 answerOf points corners begins first = faultOr first (accepted (vertices points) (edges corners) (facets begins))
 
 -- its number: that of the first fault, or 0
-abbrev pub numberOf : Fault → ℕ
-numberOf (Breaks number first second) = number
-numberOf None = 0
+abbrev pub faultNumber : Fault → ℕ
+faultNumber (Breaks number first second) = number
+faultNumber None = 0
 
-pub answer-number : (points : List ℤ) (corners begins : List ℕ) (first : Fault) → answerOf points corners begins first .number ≡ numberOf first
+pub answer-number : (points : List ℤ) (corners begins : List ℕ) (first : Fault) → answerOf points corners begins first .number ≡ faultNumber first
 answer-number points corners begins (Breaks number first second) = refl
 answer-number points corners begins None = refl

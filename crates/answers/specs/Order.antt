@@ -12,7 +12,7 @@ use Rattle.tables.specs.Found.{lowest, firstPlace, Lowest, First, Nowhere, NoPl
 use Rattle.tables.specs.Found.{searched, sought, lowest-none, first-none, lowest-is, nowhere-is, first-is, no-place-is}
 use Rattle.tables.specs.declared.Found.{Found}
 use Rattle.tables.specs.declared.Found.the-variants.{At, Nothing}
-use Rattle.answers.specs.Answer.{numberOf}
+use Rattle.answers.specs.Answer.{faultNumber}
 use Rattle.answers.specs.declared.Fault.{Fault}
 use Rattle.answers.specs.declared.Fault.the-variants.{Breaks, None}
 
@@ -20,60 +20,60 @@ use Rattle.answers.specs.declared.Fault.the-variants.{Breaks, None}
 
 -- in the tables as a whole; at each of n vertices or facets; at each of the so many positions or vertices of n facets
 pub data Search : Type 0 where
-  whole : Bool → Search
-  each : ℕ → (ℕ → Bool) → Search
-  within : ℕ → (ℕ → ℕ) → (ℕ → ℕ → Bool) → Search
+  ofAll : Bool → Search
+  ofEach : ℕ → (ℕ → Bool) → Search
+  ofPlaces : ℕ → (ℕ → ℕ) → (ℕ → ℕ → Bool) → Search
 
 -- "Within it, the first place wins: lowest vertex, or lowest facet and then lowest position or vertex."
-abbrev pub place : Search → Found
-place (whole test) = cond test (At 0 0) Nothing
-place (each n test) = lowest n test
-place (within n counts test) = firstPlace n counts test
+abbrev pub placeOf : Search → Found
+placeOf (ofAll test) = cond test (At 0 0) Nothing
+placeOf (ofEach n test) = lowest n test
+placeOf (ofPlaces n counts test) = firstPlace n counts test
 
 -- what it means that a rule applies first at a place ..
-abbrev pub FirstAt : Search → ℕ → ℕ → Type 0
-FirstAt (whole test) a b = (test ≡ true) × ((a ≡ 0) × (b ≡ 0))
-FirstAt (each n test) a b = Lowest n test a × (b ≡ 0)
-FirstAt (within n counts test) a b = First n counts test a b
+abbrev pub AppliesFirst : Search → ℕ → ℕ → Type 0
+AppliesFirst (ofAll test) a b = (test ≡ true) × ((a ≡ 0) × (b ≡ 0))
+AppliesFirst (ofEach n test) a b = Lowest n test a × (b ≡ 0)
+AppliesFirst (ofPlaces n counts test) a b = First n counts test a b
 
 -- .. and that it applies nowhere
-abbrev pub Never : Search → Type 0
-Never (whole test) = test ≡ false
-Never (each n test) = Nowhere n test
-Never (within n counts test) = NoPlace n counts test
+abbrev pub AppliesNever : Search → Type 0
+AppliesNever (ofAll test) = test ≡ false
+AppliesNever (ofEach n test) = Nowhere n test
+AppliesNever (ofPlaces n counts test) = NoPlace n counts test
 
 differ : {a b : ℕ} → _≡_ {A = Found} (At a b) Nothing → ⊥
 differ e = let z : _≡_ {A = ℕ} 0 1 = cc in omega arith
 
-pub first-at : (s : Search) {a b : ℕ} → place s ≡ At a b → FirstAt s a b
-first-at (whole true) e = (refl, (cc, cc))
-first-at (whole false) e = absurd (differ (sym e))
-first-at (each n test) e = go (searched n test) e
+pub applies-first : (s : Search) {a b : ℕ} → placeOf s ≡ At a b → AppliesFirst s a b
+applies-first (ofAll true) e = (refl, (cc, cc))
+applies-first (ofAll false) e = absurd (differ (sym e))
+applies-first (ofEach n test) e = go (searched n test) e
   where
     go : {r : Found} {a b : ℕ} → Searched n test r → r ≡ At a b → Lowest n test a × (b ≡ 0)
     go {a = a} (found-at {v} h) e = let s : v ≡ a = cc in (rw (← s) h, cc)
     go (found-none h) e = absurd (differ (sym e))
-first-at (within n counts test) e = go (sought n counts test) e
+applies-first (ofPlaces n counts test) e = go (sought n counts test) e
   where
     go : {r : Found} {a b : ℕ} → Sought n counts test r → r ≡ At a b → First n counts test a b
     go {a = a} {b = b} (place-at {f} {p} h) e = let s : f ≡ a = cc in let t : p ≡ b = cc in rw (← s, ← t) h
     go (place-none h) e = absurd (differ (sym e))
 
-pub at-first : (s : Search) {a b : ℕ} → FirstAt s a b → place s ≡ At a b
-at-first (whole test) (t, (x, y)) = rw (t, x, y)
-at-first (each n test) (h, y) = rw y (lowest-is h)
-at-first (within n counts test) h = first-is h
+pub first-applies : (s : Search) {a b : ℕ} → AppliesFirst s a b → placeOf s ≡ At a b
+first-applies (ofAll test) (t, (x, y)) = rw (t, x, y)
+first-applies (ofEach n test) (h, y) = rw y (lowest-is h)
+first-applies (ofPlaces n counts test) h = first-is h
 
-pub never : (s : Search) → place s ≡ Nothing → Never s
-never (whole true) e = absurd (differ e)
-never (whole false) e = refl
-never (each n test) e = lowest-none n test e
-never (within n counts test) e = first-none n counts test e
+pub applies-never : (s : Search) → placeOf s ≡ Nothing → AppliesNever s
+applies-never (ofAll true) e = absurd (differ e)
+applies-never (ofAll false) e = refl
+applies-never (ofEach n test) e = lowest-none n test e
+applies-never (ofPlaces n counts test) e = first-none n counts test e
 
-pub nothing : (s : Search) → Never s → place s ≡ Nothing
-nothing (whole test) h = rw h
-nothing (each n test) h = nowhere-is h
-nothing (within n counts test) h = no-place-is h
+pub never-applies : (s : Search) → AppliesNever s → placeOf s ≡ Nothing
+never-applies (ofAll test) h = rw h
+never-applies (ofEach n test) h = nowhere-is h
+never-applies (ofPlaces n counts test) h = no-place-is h
 
 -- ---- the order
 
@@ -93,28 +93,28 @@ orElse number Nothing later = later
 -- "The lowest number that applies anywhere"
 unfoldable pub firstOf : List Rule → Fault
 firstOf [] = None
-firstOf (r ∷ rs) = orElse (r .number) (place (r .search)) (firstOf rs)
+firstOf (r ∷ rs) = orElse (r .number) (placeOf (r .search)) (firstOf rs)
 
 -- each fault is a rule's that applies, first at its place, where none before it applies anywhere ..
 pub data Given : List Rule → Fault → Type 0 where
-  here : {r : Rule} {rs : List Rule} {a b : ℕ} → FirstAt (r .search) a b → Given (r ∷ rs) (Breaks (r .number) a b)
-  after : {r : Rule} {rs : List Rule} {x : Fault} → Never (r .search) → Given rs x → Given (r ∷ rs) x
+  here : {r : Rule} {rs : List Rule} {a b : ℕ} → AppliesFirst (r .search) a b → Given (r ∷ rs) (Breaks (r .number) a b)
+  after : {r : Rule} {rs : List Rule} {x : Fault} → AppliesNever (r .search) → Given rs x → Given (r ∷ rs) x
   none : Given [] None
 
 pub given : (rs : List Rule) → Given rs (firstOf rs)
 unfolding firstOf
 given [] = none
-given (r ∷ rs) = go (given rs) (place (r .search)) refl
+given (r ∷ rs) = go (given rs) (placeOf (r .search)) refl
   where
-    go : {x : Fault} → Given rs x → (p : Found) → place (r .search) ≡ p → Given (r ∷ rs) (orElse (r .number) p x)
-    go g (At a b) e = here (first-at (r .search) e)
-    go g Nothing e = after (never (r .search) e) g
+    go : {x : Fault} → Given rs x → (p : Found) → placeOf (r .search) ≡ p → Given (r ∷ rs) (orElse (r .number) p x)
+    go g (At a b) e = here (applies-first (r .search) e)
+    go g Nothing e = after (applies-never (r .search) e) g
 
 -- .. and no other is
 pub given-is : {rs : List Rule} {x : Fault} → Given rs x → x ≡ firstOf rs
 unfolding firstOf
-given-is (here {r} {rs} h) = ap (λ p. orElse (r .number) p (firstOf rs)) (sym (at-first (r .search) h))
-given-is (after {r} {rs} h g) = given-is g ∙ ap (λ p. orElse (r .number) p (firstOf rs)) (sym (nothing (r .search) h))
+given-is (here {r} {rs} h) = ap (λ p. orElse (r .number) p (firstOf rs)) (sym (first-applies (r .search) h))
+given-is (after {r} {rs} h g) = given-is g ∙ ap (λ p. orElse (r .number) p (firstOf rs)) (sym (never-applies (r .search) h))
 given-is none = refl
 
 -- ---- what is known on the way
@@ -122,7 +122,7 @@ given-is none = refl
 -- where rule number i of the list, from 0, applies first
 abbrev pub placeAt : List Rule → ℕ → Found
 placeAt [] i = Nothing
-placeAt (r ∷ rs) zero = place (r .search)
+placeAt (r ∷ rs) zero = placeOf (r .search)
 placeAt (r ∷ rs) (suc i) = placeAt rs i
 
 -- the first n rules apply nowhere
@@ -147,24 +147,24 @@ rest P = record { none = λ i l. P .none (suc i) (omega arith) }
 pub all-pass : (rs : List Rule) → firstOf rs ≡ None → Passes rs (length rs)
 unfolding firstOf
 all-pass [] e = passes-0
-all-pass (r ∷ rs) e = go (all-pass rs) (place (r .search)) refl e
+all-pass (r ∷ rs) e = go (all-pass rs) (placeOf (r .search)) refl e
   where
-    join : place (r .search) ≡ Nothing → Passes rs (length rs) → (i : ℕ) → i < suc (length rs) → placeAt (r ∷ rs) i ≡ Nothing
+    join : placeOf (r .search) ≡ Nothing → Passes rs (length rs) → (i : ℕ) → i < suc (length rs) → placeAt (r ∷ rs) i ≡ Nothing
     join s P zero l = s
     join s P (suc i) l = P .none i (omega arith)
 
-    go : (firstOf rs ≡ None → Passes rs (length rs)) → (p : Found) → place (r .search) ≡ p → orElse (r .number) p (firstOf rs) ≡ None
+    go : (firstOf rs ≡ None → Passes rs (length rs)) → (p : Found) → placeOf (r .search) ≡ p → orElse (r .number) p (firstOf rs) ≡ None
         → Passes (r ∷ rs) (suc (length rs))
     go h (At a b) s e = let z : _≡_ {A = ℕ} 0 1 = cc in absurd (omega arith)
     go h Nothing s e = record { none = join s (h e) }
 
-abbrev pub numberAt : List Rule → ℕ → ℕ
-numberAt [] i = 0
-numberAt (r ∷ rs) zero = r .number
-numberAt (r ∷ rs) (suc i) = numberAt rs i
+abbrev pub ruleNumber : List Rule → ℕ → ℕ
+ruleNumber [] i = 0
+ruleNumber (r ∷ rs) zero = r .number
+ruleNumber (r ∷ rs) (suc i) = ruleNumber rs i
 
 -- the first n rules apply nowhere, and the next one does
-pub first-here : (rs : List Rule) (n : ℕ) {a b : ℕ} → Passes rs n → placeAt rs n ≡ At a b → Breaks (numberAt rs n) a b ≡ firstOf rs
+pub first-here : (rs : List Rule) (n : ℕ) {a b : ℕ} → Passes rs n → placeAt rs n ≡ At a b → Breaks (ruleNumber rs n) a b ≡ firstOf rs
 unfolding firstOf
 first-here [] n P e = absurd (differ (sym e))
 first-here (r ∷ rs) zero P e = rw e
@@ -189,7 +189,7 @@ passes-append rs qs P = record { none = λ i l. place-append rs qs i l ∙ P .no
 pub first-append : (rs qs : List Rule) {number first second : ℕ} → firstOf rs ≡ Breaks number first second → firstOf (rs ++ qs) ≡ Breaks number first second
 unfolding firstOf
 first-append [] qs e = let z : _≡_ {A = ℕ} 0 1 = cc in absurd (omega arith)
-first-append (r ∷ rs) qs e = go (λ h. first-append rs qs h) (place (r .search)) e
+first-append (r ∷ rs) qs e = go (λ h. first-append rs qs h) (placeOf (r .search)) e
   where
     go : {x : Fault} → (firstOf rs ≡ x → firstOf (rs ++ qs) ≡ x) → (p : Found) → orElse (r .number) p (firstOf rs) ≡ x
         → orElse (r .number) p (firstOf (rs ++ qs)) ≡ x
@@ -203,13 +203,13 @@ numbered [] = true
 numbered (r ∷ rs) = cond (ltb 0 (r .number)) (numbered rs) false
 
 -- so the number 0 says that none applies
-pub number-0 : (rs : List Rule) → numbered rs ≡ true → numberOf (firstOf rs) ≡ 0 → firstOf rs ≡ None
+pub number-0 : (rs : List Rule) → numbered rs ≡ true → faultNumber (firstOf rs) ≡ 0 → firstOf rs ≡ None
 unfolding firstOf numbered
 number-0 [] n e = refl
-number-0 (r ∷ rs) n e = go (number-0 rs) (place (r .search)) (ltb 0 (r .number)) refl n e
+number-0 (r ∷ rs) n e = go (number-0 rs) (placeOf (r .search)) (ltb 0 (r .number)) refl n e
   where
-    go : (numbered rs ≡ true → numberOf (firstOf rs) ≡ 0 → firstOf rs ≡ None) → (p : Found) (t : Bool) → ltb 0 (r .number) ≡ t
-        → cond t (numbered rs) false ≡ true → numberOf (orElse (r .number) p (firstOf rs)) ≡ 0 → orElse (r .number) p (firstOf rs) ≡ None
+    go : (numbered rs ≡ true → faultNumber (firstOf rs) ≡ 0 → firstOf rs ≡ None) → (p : Found) (t : Bool) → ltb 0 (r .number) ≡ t
+        → cond t (numbered rs) false ≡ true → faultNumber (orElse (r .number) p (firstOf rs)) ≡ 0 → orElse (r .number) p (firstOf rs) ≡ None
     go h p false s n e = absurd (true≢false (sym n))
     go h (At a b) true s n e = absurd (omega (arith, ltb-true 0 (r .number) s))
     go h Nothing true s n e = h n e
@@ -229,7 +229,7 @@ split : (s t : Bool) → cond s t false ≡ true → (s ≡ true) × (t ≡ true
 split true t e = (refl, e)
 split false t e = absurd (true≢false (sym e))
 
-above-each : (n : ℕ) (rs : List Rule) → above n rs ≡ true → (i : ℕ) → i < length rs → n < numberAt rs i
+above-each : (n : ℕ) (rs : List Rule) → above n rs ≡ true → (i : ℕ) → i < length rs → n < ruleNumber rs i
 unfolding above
 above-each n [] e i l = absurd (omega arith)
 above-each n (r ∷ rs) e zero l = let (h, k) = split (ltb n (r .number)) (above n rs) e in ltb-true n (r .number) h
@@ -237,16 +237,16 @@ above-each n (r ∷ rs) e (suc i) l = let (h, k) = split (ltb n (r .number)) (ab
 
 -- "The lowest number that applies anywhere in the tables wins": no rule that applies has a lower number than the first fault
 pub lowest-wins : (rs : List Rule) → ascending rs ≡ true → {number a b c d : ℕ} → firstOf rs ≡ Breaks number a b
-    → (i : ℕ) → i < length rs → placeAt rs i ≡ At c d → number ≤ numberAt rs i
+    → (i : ℕ) → i < length rs → placeAt rs i ≡ At c d → number ≤ ruleNumber rs i
 unfolding firstOf ascending
 lowest-wins [] s e i l p = absurd (omega arith)
 lowest-wins (r ∷ rs) s e i l p =
     let (h, k) = split (above (r .number) rs) (ascending rs) s in
-    go (λ e j m q. lowest-wins rs k e j m q) (above-each (r .number) rs h) (place (r .search)) refl e i l p
+    go (λ e j m q. lowest-wins rs k e j m q) (above-each (r .number) rs h) (placeOf (r .search)) refl e i l p
   where
-    go : {number a b c d : ℕ} → (firstOf rs ≡ Breaks number a b → (j : ℕ) → j < length rs → placeAt rs j ≡ At c d → number ≤ numberAt rs j)
-        → ((j : ℕ) → j < length rs → r .number < numberAt rs j) → (x : Found) → place (r .search) ≡ x → orElse (r .number) x (firstOf rs) ≡ Breaks number a b
-        → (i : ℕ) → i < length (r ∷ rs) → placeAt (r ∷ rs) i ≡ At c d → number ≤ numberAt (r ∷ rs) i
+    go : {number a b c d : ℕ} → (firstOf rs ≡ Breaks number a b → (j : ℕ) → j < length rs → placeAt rs j ≡ At c d → number ≤ ruleNumber rs j)
+        → ((j : ℕ) → j < length rs → r .number < ruleNumber rs j) → (x : Found) → placeOf (r .search) ≡ x → orElse (r .number) x (firstOf rs) ≡ Breaks number a b
+        → (i : ℕ) → i < length (r ∷ rs) → placeAt (r ∷ rs) i ≡ At c d → number ≤ ruleNumber (r ∷ rs) i
     go {number} h up (At x y) s e zero l p = let z : r .number ≡ number = cc in omega arith
     go {number} h up (At x y) s e (suc i) l p = let z : r .number ≡ number = cc in omega (arith, up i (omega arith))
     go h up Nothing s e zero l p = absurd (differ (sym p ∙ s))

@@ -35,19 +35,19 @@ abbrev pub Reached : List ℕ → List ℕ → ℕ → Type 0
 Reached corners begins = Rounds.Reached (length corners) (homeOf begins) (facetAcross corners begins)
 
 module _ {corners begins : List ℕ} (L : Laid corners begins) (P : Paired corners begins) where
-  pub beyond-facet : (p : ℕ) → p < length corners → facetAcross corners begins p < facets begins
-  beyond-facet p l = omega (arith, home L (across P l .below) .facet)
+  pub across-facet : (p : ℕ) → p < length corners → facetAcross corners begins p < facets begins
+  across-facet p l = omega (arith, home L (across P l .below) .facet)
 
   pub some-facet : 0 < facets begins
   some-facet = omega (arith, L .some)
 
   pub flooded-all : {f : ℕ} → Reached corners begins f → at (flooded corners begins) f ≡ true
   unfolding flooded
-  flooded-all r = all (length corners) (facets begins) (homeOf begins) (facetAcross corners begins) beyond-facet some-facet r
+  flooded-all r = all (length corners) (facets begins) (homeOf begins) (facetAcross corners begins) across-facet some-facet r
 
   pub flooded-only : {f : ℕ} → at (flooded corners begins) f ≡ true → Reached corners begins f
   unfolding flooded
-  flooded-only e = only (length corners) (facets begins) (homeOf begins) (facetAcross corners begins) beyond-facet e
+  flooded-only e = only (length corners) (facets begins) (homeOf begins) (facetAcross corners begins) across-facet e
 
   -- APART finds nothing exactly where every facet is reached
   pub apart-means : apart corners begins ≡ Nothing → (f : ℕ) → f < facets begins → Reached corners begins f

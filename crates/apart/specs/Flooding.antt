@@ -15,7 +15,7 @@ use Rattle.index.specs.Entries.{homeAt, acrossAt}
 use Rattle.edges.specs.Edge.{facetAcross}
 use Rattle.edges.specs.Index.{small}
 use Rattle.pair.specs.Across.{Crossed, across-small, facet-across}
-use Rattle.apart.specs.Apart.{flooded, isApart, Reached, beyond-facet, some-facet, flooded-all, flooded-only}
+use Rattle.apart.specs.Apart.{flooded, isApart, Reached, across-facet, some-facet, flooded-all, flooded-only}
 
 -- the queue holds the marked facets, and all are reached
 abbrev pub Queued : List ℕ → List ℕ → List (List ℕ) → ℕ → Type 0
@@ -77,7 +77,7 @@ module _ {corners begins : List ℕ} {edges queue : List (List ℕ)} {tail f las
           is = h ∙ ap (homeAt edges) e ∙ facet-across (S .visit .crossed) below
 
           facet-below : g < facets begins
-          facet-below = rw is (beyond-facet (S .visit .crossed .indexed .tables .laid) (S .visit .crossed .paired) p below)
+          facet-below = rw is (across-facet (S .visit .crossed .indexed .tables .laid) (S .visit .crossed .paired) p below)
 
           pub visit-pushing : Pushing mostFacets queue′ n g
           visit-pushing = pushing (S .spread .queued) facet-below
@@ -149,7 +149,7 @@ module _ {corners begins : List ℕ} {edges : List (List ℕ)} {heads : List ℕ
           range p h s = let i = home (R .crossed .indexed .tables .laid) h in (rw (e, ← s) (i .low), rw (e, ← s) (i .high))
 
   pub reaching-end : tail ≤ head → ReachMarks corners begins queue
-  reaching-end l = flood-end (R .flood) l (some (R .crossed)) (beyond-facet (R .crossed .indexed .tables .laid) (R .crossed .paired))
+  reaching-end l = flood-end (R .flood) l (some (R .crossed)) (across-facet (R .crossed .indexed .tables .laid) (R .crossed .paired))
 
 -- ---- the search for a facet that has no mark
 

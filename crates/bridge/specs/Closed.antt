@@ -19,14 +19,14 @@ use Rattle.edges.specs.Edge.{acrossOf, facetAcross}
 use Rattle.pair.specs.Across.{across, edge-once, Matched, paired-if, means-pair}
 use Rattle.bridge.specs.Lower.{repeat-single, single-repeat, Used, unused-used, used-unused}
 use Rattle.ring.specs.Step.{roundOf, step-below, step-leaves, step-home}
-use Rattle.ring.specs.Ring.{ring, Stepped, OneRing, ring-means, ring-from}
+use Rattle.ring.specs.Ring.{ring, RoundTo, OneRing, ring-means, ring-from}
 use Rattle.apart.specs.Apart.{apart, Reached, apart-means, means-apart}
 use Rattle.solid.specs.Reach.{Around, here, hop, Ring, Linked, self, link}
 use Rattle.solid.specs.Tables.{Tables, Place, Corner, Edge, Closed, next}
 use Rattle.bridge.specs.Surface.{tablesOf, Names, Runs, place-names, place-runs, names-place, corner-names, names-corner, edge-runs, runs-edge}
 
 -- numbers 4 to 8 find nothing
-pub record Passes (n : ℕ) (corners begins : List ℕ) : Type 0 where
+pub record Shut (n : ℕ) (corners begins : List ℕ) : Type 0 where
   pub no-4 : repeat corners begins ≡ Nothing
   pub no-5 : unused n corners ≡ Nothing
   pub no-6 : pair corners begins ≡ Nothing
@@ -86,7 +86,7 @@ module _ (points : List ℤ) {corners begins : List ℕ} (S : Sound (vertices po
       let s = sym (place-names points laid p .facet) ∙ ap (homeOf begins) e ∙ place-names points laid q .facet in
       (s, omega (arith, e, ap (begin begins) s))
 
-  pub is-closed : Passes (vertices points) corners begins → Closed T
+  pub is-closed : Shut (vertices points) corners begins → Closed T
   is-closed N =
       let U = unused-used (N .no-5) in
       let P = pair-none laid (N .no-6) in
@@ -149,7 +149,7 @@ module _ (points : List ℤ) {corners begins : List ℕ} (S : Sound (vertices po
         let r = across P (a .names .below) in
         edge-once P (r .below) (b .names .below) (r .starts ∙ a .ends ∙ sym (b .names .starts)) (r .ends ∙ a .names .starts ∙ sym (b .ends))
 
-    stepped : {f g v p q : ℕ} → Names corners begins f v p → Around (Edge T) v f g → Names corners begins g v q → Stepped corners begins p q
+    stepped : {f g v p q : ℕ} → Names corners begins f v p → Around (Edge T) v f g → Names corners begins g v q → RoundTo corners begins p q
     unfolding iterate roundOf
     stepped n here m = (0, single .repeats _ _ (n .below) (m .below) (n .facet ∙ sym (m .facet)) (n .starts ∙ sym (m .starts)))
     stepped n (hop a o i) m =
@@ -168,8 +168,8 @@ module _ (points : List ℤ) {corners begins : List ℕ} (S : Sound (vertices po
         let k : Reached corners begins (facetAcross corners begins x) = arc {p = x} (rw (r .names .facet) (unlinked a)) (r .names .below) in
         rw (ap (homeOf begins) (crossed r t) ∙ t .names .facet) at k
 
-  pub passes : Closed T → Passes (vertices points) corners begins
-  passes C = record {
+  pub shut : Closed T → Shut (vertices points) corners begins
+  shut C = record {
     no-4 = single-repeat laid (single C);
     no-5 = used-unused (used C);
     no-6 = means-pair laid (matched C);
@@ -183,5 +183,5 @@ module _ (points : List ℤ) {corners begins : List ℕ} (S : Sound (vertices po
     no-8 = means-apart laid (P C) (λ f l. unlinked C (C .reached f l));
   }
 
-  pub closed-exactly : Passes (vertices points) corners begins ↔ Closed T
-  closed-exactly = (is-closed, passes)
+  pub closed-exactly : Shut (vertices points) corners begins ↔ Closed T
+  closed-exactly = (is-closed, shut)

@@ -20,12 +20,12 @@ use Rattle.edges.specs.Chains.{lastOf, backOf, Chains}
 use Rattle.edges.specs.Edge.{isEdge, lastEdge, acrossOf, across-is, across-below}
 
 -- the row of place p: the place across stands in it where p is below n
-abbrev pub rowOf : List ℕ → List ℕ → ℕ → ℕ → List ℕ
-rowOf corners begins n p = row (homeOf begins p) (to corners begins p) (cond (ltb p n) (acrossOf corners begins p) 0) (backOf corners p)
+abbrev pub entriesOf : List ℕ → List ℕ → ℕ → ℕ → List ℕ
+entriesOf corners begins n p = row (homeOf begins p) (to corners begins p) (cond (ltb p n) (acrossOf corners begins p) 0) (backOf corners p)
 
 -- the first m places have their rows, and the first n of them their places across
-pub record Rows (corners begins : List ℕ) (m n : ℕ) (edges : List (List ℕ)) (heads : List ℕ) : Type 0 where
-  pub rows : Filled [] blankRow mostCorners edges (rowOf corners begins n) m
+pub record RowsHeld (corners begins : List ℕ) (m n : ℕ) (edges : List (List ℕ)) (heads : List ℕ) : Type 0 where
+  pub rows : Filled [] blankRow mostCorners edges (entriesOf corners begins n) m
   pub firsts : Filled 0 0 mostVertices heads (lastOf corners m) mostVertices
 
 -- tables that an index can be made of
@@ -36,7 +36,7 @@ pub record Indexable (corners begins : List ℕ) : Type 0 where
 -- the whole index
 pub record Indexed (corners begins : List ℕ) (edges : List (List ℕ)) (heads : List ℕ) : Type 0 where
   pub tables : Indexable corners begins
-  pub filled : Rows corners begins (length corners) (length corners) edges heads
+  pub filled : RowsHeld corners begins (length corners) (length corners) edges heads
 
 -- there is one index
 pub one-index : {corners begins : List ℕ} {edges edges′ : List (List ℕ)} {heads heads′ : List ℕ} → Indexed corners begins edges heads
@@ -58,7 +58,7 @@ pub to-small : {corners begins : List ℕ} → Indexable corners begins → {p :
 to-small I l = I .named .index _ (next-below (I .laid) l)
 
 pub leaving : {corners begins : List ℕ} {n : ℕ} {edges : List (List ℕ)} {heads : List ℕ} → Indexable corners begins
-    → Rows corners begins (length corners) n edges heads → Leaving corners begins edges heads
+    → RowsHeld corners begins (length corners) n edges heads → Leaving corners begins edges heads
 leaving I R = record {
   tables = I;
   ends = λ p l. ap (λ r. getD r 1 0) (R .rows .at p l);
@@ -97,10 +97,10 @@ module _ {corners begins : List ℕ} {edges : List (List ℕ)} {heads : List ℕ
 
 -- ---- the first pass lists the places, the second finds the places across
 
-pub rows-0 : (corners begins : List ℕ) {edges : List (List ℕ)} {heads : List ℕ} → Fresh edges heads → Rows corners begins 0 0 edges heads
+pub rows-0 : (corners begins : List ℕ) {edges : List (List ℕ)} {heads : List ℕ} → Fresh edges heads → RowsHeld corners begins 0 0 edges heads
 unfolding lastBelow
 rows-0 corners begins f = record {
-  rows = rw (f .rows) (filled-0 (rowOf corners begins 0));
+  rows = rw (f .rows) (filled-0 (entriesOf corners begins 0));
   firsts = rw (f .links) (record {
     long = length-replicate {A = ℕ} mostVertices 0;
     at = λ v l. blank mostVertices v;
@@ -114,9 +114,9 @@ head : (corners heads : List ℕ) (m v : ℕ) (t : Bool) → from corners m < le
 head corners heads m v true l e h = rw (← eqb-true (from corners m) v e) (getD-set-same heads (from corners m) (m + 1) 0 l)
 head corners heads m v false l e h = getD-set-other heads (from corners m) v (m + 1) 0 (λ q. eqb-false (from corners m) v e (sym q)) ∙ h
 
-rows-more : {corners begins : List ℕ} {edges : List (List ℕ)} {heads : List ℕ} {m f end back : ℕ} → Rows corners begins m 0 edges heads → m < mostCorners
+rows-more : {corners begins : List ℕ} {edges : List (List ℕ)} {heads : List ℕ} {m f end back : ℕ} → RowsHeld corners begins m 0 edges heads → m < mostCorners
     → from corners m < mostVertices → f ≡ homeOf begins m → end ≡ to corners begins m → back ≡ headAt heads (from corners m)
-    → Rows corners begins (m + 1) 0 (set edges m (row f end 0 back)) (set heads (from corners m) (m + 1))
+    → RowsHeld corners begins (m + 1) 0 (set edges m (row f end 0 back)) (set heads (from corners m) (m + 1))
 rows-more {corners} {heads = heads} {m} R l b h e k = record {
   rows = filled-more _ (R .rows) l (rw (le-ltb m 0 (omega arith), h, e, k ∙ R .firsts .at (from corners m) b));
   firsts = record {
@@ -131,7 +131,7 @@ pub record Listing (corners begins : List ℕ) (edges : List (List ℕ)) (heads 
   pub tables : Indexable corners begins
   pub upto : p ≤ length corners
   pub at : Upto begins f p
-  pub filled : Rows corners begins p 0 edges heads
+  pub filled : RowsHeld corners begins p 0 edges heads
 
 pub listing-0 : {corners begins : List ℕ} {edges : List (List ℕ)} {heads : List ℕ} → Indexable corners begins → Fresh edges heads
     → Listing corners begins edges heads 0 0
@@ -164,18 +164,18 @@ module _ {corners begins : List ℕ} {edges : List (List ℕ)} {heads : List ℕ
               rows-more (S .filled) (omega (arith, S .tables .laid .short)) vertex-small (home-of (S .tables .laid) i) (ap (from corners) (next-now h e)) k;
         }
 
-  pub listed : length corners ≤ p → Rows corners begins (length corners) 0 edges heads
+  pub listed : length corners ≤ p → RowsHeld corners begins (length corners) 0 edges heads
   listed l = let e : length corners ≡ p = omega (arith, S .upto) in rw e (S .filled)
 
 -- the rows of other places stay as they are
-same-row : (corners begins : List ℕ) (n k : ℕ) → (k ≡ n → ⊥) → rowOf corners begins n k ≡ rowOf corners begins (n + 1) k
+same-row : (corners begins : List ℕ) (n k : ℕ) → (k ≡ n → ⊥) → entriesOf corners begins n k ≡ entriesOf corners begins (n + 1) k
 same-row corners begins n k d = elim (decLt k n) [
   | yes l ↦ rw (lt-ltb k n l, lt-ltb k (n + 1) (omega arith))
   | no l ↦ rw (le-ltb k n (omega arith), le-ltb k (n + 1) (omega arith))
 ]
 
-rows-across : {corners begins : List ℕ} {edges : List (List ℕ)} {heads : List ℕ} {m n across : ℕ} → Rows corners begins m n edges heads → n < m
-    → m ≤ mostCorners → across ≡ acrossOf corners begins n → Rows corners begins m (n + 1) (set edges n (set (getD edges n []) 2 across)) heads
+rows-across : {corners begins : List ℕ} {edges : List (List ℕ)} {heads : List ℕ} {m n across : ℕ} → RowsHeld corners begins m n edges heads → n < m
+    → m ≤ mostCorners → across ≡ acrossOf corners begins n → RowsHeld corners begins m (n + 1) (set edges n (set (getD edges n []) 2 across)) heads
 rows-across {corners} {begins} {n = n} R l b e = record {
   rows = filled-again _ (R .rows) l b (rw (R .rows .at n l, lt-ltb n (n + 1) (omega arith), e)) (same-row corners begins n);
   firsts = R .firsts;
@@ -185,7 +185,7 @@ rows-across {corners} {begins} {n = n} R l b e = record {
 pub record Crossing (corners begins : List ℕ) (edges : List (List ℕ)) (heads : List ℕ) (p : ℕ) : Type 0 where
   pub tables : Indexable corners begins
   pub upto : p ≤ length corners
-  pub filled : Rows corners begins (length corners) p edges heads
+  pub filled : RowsHeld corners begins (length corners) p edges heads
 
 module _ {corners begins : List ℕ} {edges : List (List ℕ)} {heads : List ℕ} {p : ℕ} (S : Crossing corners begins edges heads p) where
   pub crossing-leaving : Leaving corners begins edges heads

@@ -7,7 +7,7 @@ ghost use Rattle.tables.specs.Places.{In};
 ghost use Rattle.index.specs.Entries.{Fresh};
 ghost use Rattle.edges.specs.Homes.{homeOn};
 ghost use Rattle.edges.specs.Edge.{lastEdge};
-ghost use Rattle.edges.specs.Index.{Rows, Indexable, Indexed, Leaving};
+ghost use Rattle.edges.specs.Index.{RowsHeld, Indexable, Indexed, Leaving};
 
 // The facet of place p, where f is that of the place before, or the first.
 fn home_on(begins: &[u16], f: usize, p: usize) -> usize
@@ -37,7 +37,7 @@ pub fn next_in(begins: &[u16], f: usize, p: usize) -> usize
 fn list(corners: &[u16], begins: &[u16], edges: &mut index::Edges, heads: &mut index::Heads)
     requires { ⌜ Indexable (now corners) (now begins) ⌝ }
     requires { ⌜ Fresh (now edges) (now heads) ⌝ }
-    ensures { λ _. ⌜ Rows (now (corners .entry)) (now (begins .entry)) (length (now (corners .entry))) 0 (now (edges .exit)) (now (heads .exit)) ⌝ }
+    ensures { λ _. ⌜ RowsHeld (now (corners .entry)) (now (begins .entry)) (length (now (corners .entry))) 0 (now (edges .exit)) (now (heads .exit)) ⌝ }
 {
     let mut f = 0;
     let mut p = 0;
@@ -88,7 +88,7 @@ fn place_of(link: usize) -> usize
 // Finds for each place the one across: the last of the reverse of its edge.
 fn cross(corners: &[u16], begins: &[u16], edges: &mut index::Edges, heads: &index::Heads)
     requires { ⌜ Indexable (now corners) (now begins) ⌝ }
-    requires { ⌜ Rows (now corners) (now begins) (length (now corners)) 0 (now edges) (now heads) ⌝ }
+    requires { ⌜ RowsHeld (now corners) (now begins) (length (now corners)) 0 (now edges) (now heads) ⌝ }
     ensures { λ _. ⌜ Indexed (now (corners .entry)) (now (begins .entry)) (now (edges .exit)) (now (heads .entry)) ⌝ }
 {
     let mut p = 0;

@@ -47,7 +47,7 @@ abbrev to : ℕ → ℤ → ℕ → Walked
 to v z n = record { answer = passed; vertex = v; height = z; moves = n }
 
 -- a walk on T with its last facet as here, its answer, and the trail after it
-pub record Case (last : List ℕ) (d : Direction) (start : ℕ) (trail : List ℕ) (r : Walked) (t : List ℕ) : Type 0 where
+pub record WalkCase (last : List ℕ) (d : Direction) (start : ℕ) (trail : List ℕ) (r : Walked) (t : List ℕ) : Type 0 where
   pub answer : walked points (corners ++ last) begins d start trail ≡ r
   pub trail-after : trailAfter points (corners ++ last) begins d start trail ≡ t
 
@@ -56,20 +56,20 @@ T = 1 ∷ 2 ∷ 3 ∷ []
 
 pub record Cases : Type 0 where
   -- "J. Walk on T, direction 1,1,1, start 0: vertex 1, height 1, 1 move, trail 0, 1."
-  pub J : Case T (direction (pos 1) (pos 1) (pos 1)) 0 lent (to 1 (pos 1) 1) (0 ∷ 1 ∷ 9 ∷ 9 ∷ 9 ∷ [])
+  pub J : WalkCase T (direction (pos 1) (pos 1) (pos 1)) 0 lent (to 1 (pos 1) 1) (0 ∷ 1 ∷ 9 ∷ 9 ∷ 9 ∷ [])
   -- "K. T, direction 0,0,0, start 3: vertex 3, height 0, 0 moves, trail 3."
-  pub K : Case T (direction (pos 0) (pos 0) (pos 0)) 3 lent (to 3 (pos 0) 0) (3 ∷ 9 ∷ 9 ∷ 9 ∷ 9 ∷ [])
+  pub K : WalkCase T (direction (pos 0) (pos 0) (pos 0)) 3 lent (to 3 (pos 0) 0) (3 ∷ 9 ∷ 9 ∷ 9 ∷ 9 ∷ [])
   -- "L. T, direction 0,0,-1, start 3: vertex 0, height 0, 1 move, trail 3, 0."
-  pub L : Case T (direction (pos 0) (pos 0) (negsuc 0)) 3 lent (to 0 (pos 0) 1) (3 ∷ 0 ∷ 9 ∷ 9 ∷ 9 ∷ [])
+  pub L : WalkCase T (direction (pos 0) (pos 0) (negsuc 0)) 3 lent (to 0 (pos 0) 1) (3 ∷ 0 ∷ 9 ∷ 9 ∷ 9 ∷ [])
   -- "1 to 12 as the judge gives": case G, before a start that there isn't
-  pub judge-first : Case (1 ∷ 3 ∷ 2 ∷ []) (direction (pos 1) (pos 1) (pos 1)) 4 lent (halted (fault 6 0 1)) lent
+  pub judge-first : WalkCase (1 ∷ 3 ∷ 2 ∷ []) (direction (pos 1) (pos 1) (pos 1)) 4 lent (halted (fault 6 0 1)) lent
   -- 13 before 14, 14 before 15
-  pub start-first : Case T (direction (pos 32768) (pos 0) (pos 0)) 4 lent (halted (refused 13)) lent
-  pub direction-first : Case T (direction (pos 0) (pos 0) (negsuc 32767)) 3 [] (halted (refused 14)) []
+  pub start-first : WalkCase T (direction (pos 32768) (pos 0) (pos 0)) 4 lent (halted (refused 13)) lent
+  pub direction-first : WalkCase T (direction (pos 0) (pos 0) (negsuc 32767)) 3 [] (halted (refused 14)) []
   -- 15 with one entry fewer than V, though the walk needs but two
-  pub short-trail : Case T (direction (pos 1) (pos 1) (pos 1)) 0 (9 ∷ 9 ∷ 9 ∷ []) (halted (refused 15)) (9 ∷ 9 ∷ 9 ∷ [])
+  pub short-trail : WalkCase T (direction (pos 1) (pos 1) (pos 1)) 0 (9 ∷ 9 ∷ 9 ∷ []) (halted (refused 15)) (9 ∷ 9 ∷ 9 ∷ [])
   -- parts at their limits are permitted, and V entries are room
-  pub limits : Case T (direction (pos 32767) (negsuc 32766) (pos 0)) 2 (9 ∷ 9 ∷ 9 ∷ 9 ∷ []) (to 1 (pos 32767) 1) (2 ∷ 1 ∷ 9 ∷ 9 ∷ [])
+  pub limits : WalkCase T (direction (pos 32767) (negsuc 32766) (pos 0)) 2 (9 ∷ 9 ∷ 9 ∷ 9 ∷ []) (to 1 (pos 32767) 1) (2 ∷ 1 ∷ 9 ∷ 9 ∷ [])
 
 pub cases : Cases
 unfolding judged firstOf isSize isOut coordOf firstBelow countBelow lastBelow

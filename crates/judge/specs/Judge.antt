@@ -6,7 +6,7 @@ use Rattle.points.specs.Points.{vertices}
 use Rattle.tables.specs.Tables.{facets, sides}
 use Rattle.tables.specs.Facets.{onFacets}
 use Rattle.answers.specs.Answer.{answerOf}
-use Rattle.answers.specs.Order.{Rule, rule, within, firstOf}
+use Rattle.answers.specs.Order.{Rule, rule, ofPlaces, firstOf}
 use Rattle.answers.specs.declared.Answer.{Answer}
 use Rattle.stages.specs.Rules.{rulesToTurn}
 use Rattle.reflex.specs.Rules.{isReflex}
@@ -15,9 +15,9 @@ use Rattle.outside.specs.Rules.{isOutside}
 abbrev pub rulesFromReflex : List ℤ → List ℕ → List ℕ → List Rule
 rulesFromReflex points corners begins =
     -- "some corner of the facet across this edge, other than the edge's ends, isn't strictly inside this facet's plane"
-    rule 11 (within (facets begins) (sides begins) (isReflex points corners begins))
+    rule 11 (ofPlaces (facets begins) (sides begins) (isReflex points corners begins))
     -- "a vertex that isn't a corner of the facet isn't strictly inside its plane"
-    ∷ rule 12 (within (facets begins) (λ f. vertices points) (onFacets corners begins (isOutside points)))
+    ∷ rule 12 (ofPlaces (facets begins) (λ f. vertices points) (onFacets corners begins (isOutside points)))
     ∷ []
 
 abbrev pub rules : List ℤ → List ℕ → List ℕ → List Rule

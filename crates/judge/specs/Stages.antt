@@ -5,7 +5,7 @@ use mathlib.Core.Bool.{true}
 use Prim.Native.Nat.{ℕ, _≤_}
 use native.Mathlib.Omega.{arith}
 use lib.IntN.{ℤ}
-use Rattle.answers.specs.Answer.{numberOf}
+use Rattle.answers.specs.Answer.{faultNumber}
 use Rattle.answers.specs.Order.{Passes, firstOf, numbered, number-0}
 use Rattle.answers.specs.declared.Fault.the-variants.{None}
 use Rattle.bridge.specs.Surface.{tablesOf}
@@ -44,6 +44,6 @@ unfolding numbered
 all-numbered points corners begins = refl
 
 -- the number 0 says that no rule is broken
-pub none-broken : (points : List ℤ) (corners begins : List ℕ) → numberOf (firstOf (rules points corners begins)) ≡ 0
+pub none-broken : (points : List ℤ) (corners begins : List ℕ) → faultNumber (firstOf (rules points corners begins)) ≡ 0
     → firstOf (rules points corners begins) ≡ None
 none-broken points corners begins e = number-0 (rules points corners begins) (all-numbered points corners begins) e

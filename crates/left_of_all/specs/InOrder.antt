@@ -16,8 +16,8 @@ use Rattle.outline.specs.Outline.{verdict, refuse, judgedTurns, judgedOutline}
 use Rattle.once_round.specs.Limits.{counted, not-few, none-out, in-range}
 
 -- a test holds at no point
-abbrev pub None : (ℕ → Bool) → ℕ → Type 0
-None test n = (i : ℕ) → i < n → test i ≡ false
+abbrev pub NoPoint : (ℕ → Bool) → ℕ → Type 0
+NoPoint test n = (i : ℕ) → i < n → test i ≡ false
 
 -- two numbers differ, by computation
 abbrev pub Other : ℕ → ℕ → Type 0
@@ -30,10 +30,10 @@ differ {a} {b} t e = subst (λ c. T (not c)) (eq-eqb a b (ap (λ v. v .number) e
 
 module _ (number : ℕ) (test : ℕ → Bool) (n : ℕ) (later : Verdict) where
   -- an answer with another number
-  pub passed : (m i : ℕ) → Other number m → (refuse number test n later ≡ verdict m i) ↔ (None test n × (later ≡ verdict m i))
+  pub passed : (m i : ℕ) → Other number m → (refuse number test n later ≡ verdict m i) ↔ (NoPoint test n × (later ≡ verdict m i))
   passed m i t = (to, λ h. sym (miss (verdict number) later (none-all test n (h .0)) (omega arith) (omega arith)) ∙ h .1)
     where
-      to : refuse number test n later ≡ verdict m i → None test n × (later ≡ verdict m i)
+      to : refuse number test n later ≡ verdict m i → NoPoint test n × (later ≡ verdict m i)
       to e = let p = not-picked test n (verdict number) later (verdict m i) (λ k. differ t) e in (never test n (p .0), p .1)
 
   -- an answer with this number
@@ -66,7 +66,7 @@ module _ (points : List ℤ) where
       → (judgedOutline points ≡ verdict m i) ↔ (Limits points × (judgedTurns points ≡ verdict m i))
   past-range m i t u = (to, λ h. past-few m i t .1 (h .0 .counted, ranges .1 (λ j l. none-out points (h .0 .range) j, h .1)))
     where
-      ranges : (afterFew ≡ verdict m i) ↔ (None (outOfRange points) (count points) × (judgedTurns points ≡ verdict m i))
+      ranges : (afterFew ≡ verdict m i) ↔ (NoPoint (outOfRange points) (count points) × (judgedTurns points ≡ verdict m i))
       ranges = passed 2 (outOfRange points) (count points) (judgedTurns points) m i u
 
       to : judgedOutline points ≡ verdict m i → Limits points × (judgedTurns points ≡ verdict m i)
@@ -75,7 +75,7 @@ module _ (points : List ℤ) where
           let b = ranges .0 (a .1) in
           (record { counted = a .0; range = in-range points (a .0) (b .0) }, b .1)
 
-  turned : (m i : ℕ) → Other 25 m → (judgedTurns points ≡ verdict m i) ↔ (None (notLeft points) (count points) × (afterLeft ≡ verdict m i))
+  turned : (m i : ℕ) → Other 25 m → (judgedTurns points ≡ verdict m i) ↔ (NoPoint (notLeft points) (count points) × (afterLeft ≡ verdict m i))
   unfolding judgedTurns
   turned m i t = passed 25 (notLeft points) (count points) afterLeft m i t
 
@@ -90,7 +90,7 @@ module _ (points : List ℤ) where
           (record { limits = a .0; turns = λ j l. not-false (left points j) (b .0 j l) }, b .1)
 
   pub past-wound : (m i : ℕ) → Other 26 m
-      → (afterLeft ≡ verdict m i) ↔ (None (wound points) (count points) × (verdict 0 (count points) ≡ verdict m i))
+      → (afterLeft ≡ verdict m i) ↔ (NoPoint (wound points) (count points) × (verdict 0 (count points) ≡ verdict m i))
   past-wound = passed 26 (wound points) (count points) (verdict 0 (count points))
 
   -- ---- no number is answered later in the order

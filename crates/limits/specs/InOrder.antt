@@ -10,7 +10,7 @@ use Rattle.tables.specs.Tables.{facets, sides}
 use Rattle.tables.specs.Size.{isSize, Laid, sized}
 use Rattle.tables.specs.Facets.{onFacets}
 use Rattle.tables.specs.declared.Found.the-variants.{Nothing}
-use Rattle.answers.specs.Order.{Rule, rule, whole, each, within, firstOf, Passes, placeAt, never, nothing, all-pass, none-later}
+use Rattle.answers.specs.Order.{Rule, rule, ofAll, ofEach, ofPlaces, firstOf, Passes, placeAt, applies-never, never-applies, all-pass, none-later}
 use Rattle.answers.specs.declared.Fault.the-variants.{None}
 use Rattle.limits.specs.Rules.{outOfRange, wild, range, index}
 
@@ -18,9 +18,9 @@ use Rattle.limits.specs.Rules.{outOfRange, wild, range, index}
 -- than 12 corners"; "a coordinate is outside its limits"; "a corner number is V or more"
 abbrev pub limitRules : List ℤ → List ℕ → List ℕ → List Rule
 limitRules points corners begins =
-    rule 1 (whole (isSize points corners begins))
-    ∷ rule 2 (each (vertices points) (outOfRange points))
-    ∷ rule 3 (within (facets begins) (sides begins) (onFacets corners begins (wild (vertices points))))
+    rule 1 (ofAll (isSize points corners begins))
+    ∷ rule 2 (ofEach (vertices points) (outOfRange points))
+    ∷ rule 3 (ofPlaces (facets begins) (sides begins) (onFacets corners begins (wild (vertices points))))
     ∷ []
 
 pub record InOrder (points : List ℤ) (corners begins : List ℕ) : Type 0 where
@@ -31,7 +31,7 @@ pub record InOrder (points : List ℤ) (corners begins : List ℕ) : Type 0 wher
 -- exactly such tables pass
 pub in-order : {points : List ℤ} {corners begins : List ℕ} → Passes (limitRules points corners begins) 3 → InOrder points corners begins
 in-order {points} {corners} {begins} P = record {
-  sizes = never (whole (isSize points corners begins)) (P .none 0 (omega arith));
+  sizes = applies-never (ofAll (isSize points corners begins)) (P .none 0 (omega arith));
   ranges = P .none 1 (omega arith);
   numbers = P .none 2 (omega arith);
 }
@@ -41,7 +41,7 @@ module _ {points : List ℤ} {corners begins : List ℕ} (o : InOrder points cor
   limits-pass = record { none = go }
     where
       go : (i : ℕ) → i < 3 → placeAt (limitRules points corners begins) i ≡ Nothing
-      go zero l = nothing (whole (isSize points corners begins)) (o .sizes)
+      go zero l = never-applies (ofAll (isSize points corners begins)) (o .sizes)
       go (suc zero) l = o .ranges
       go (suc (suc zero)) l = o .numbers
       go (suc (suc (suc i))) l = absurd (omega arith)

@@ -2,6 +2,6 @@
 use mathlib.Core.Path.{_≡_}
 use Prim.Native.Nat.{ℕ, _<_}
 
-pub record Neighbour (n z r : ℕ) : Type 0 where
+pub record Beside (n z r : ℕ) : Type 0 where
   pub is : r ≡ z
   pub below : r < n

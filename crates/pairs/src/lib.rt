@@ -5,7 +5,7 @@ ghost use Rattle.whole.specs.First.{firstBelow};
 ghost use Rattle.whole.specs.Bounds.{Exact};
 ghost use Rattle.points.specs.Range.{limit, InRange};
 ghost use Rattle.once_round.specs.Words.{count, Point, coordOf, before, after, outOfRange};
-ghost use Rattle.pairs.specs.Neighbour.{Neighbour};
+ghost use Rattle.pairs.specs.Neighbour.{Beside};
 
 // Coordinate k of point i.
 pub fn coord(points: &[i32], i: usize, k: usize) -> i64
@@ -18,7 +18,7 @@ pub fn coord(points: &[i32], i: usize, k: usize) -> i64
 // The number of the point before point i of n.
 pub fn point_before(n: usize, i: usize) -> usize
     requires { ⌜ i < n ⌝ }
-    ensures { λ r. ⌜ Neighbour n (before n i) r ⌝ }
+    ensures { λ r. ⌜ Beside n (before n i) r ⌝ }
 {
     if i == 0 {
         return n - 1;
@@ -29,7 +29,7 @@ pub fn point_before(n: usize, i: usize) -> usize
 // The number of the point after point i of n.
 pub fn point_after(n: usize, i: usize) -> usize
     requires { ⌜ i < n ⌝ }
-    ensures { λ r. ⌜ Neighbour n (after n i) r ⌝ }
+    ensures { λ r. ⌜ Beside n (after n i) r ⌝ }
 {
     if i + 1 < n {
         return i + 1;

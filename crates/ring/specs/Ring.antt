@@ -43,12 +43,12 @@ ring n corners begins = lowest n (broken corners begins)
 -- ---- the meaning
 
 -- q is reached from p by steps
-abbrev pub Stepped : List ℕ → List ℕ → ℕ → ℕ → Type 0
-Stepped corners begins p q = (j : ℕ) × (iterate (roundOf corners begins) j p ≡ q)
+abbrev pub RoundTo : List ℕ → List ℕ → ℕ → ℕ → Type 0
+RoundTo corners begins p q = (j : ℕ) × (iterate (roundOf corners begins) j p ≡ q)
 
 -- the facets at v make one ring: each place that leaves v is reached by steps from each
 pub record OneRing (corners begins : List ℕ) (v : ℕ) : Type 0 where
-  pub met : (p q : ℕ) → p < length corners → q < length corners → from corners p ≡ v → from corners q ≡ v → Stepped corners begins p q
+  pub met : (p q : ℕ) → p < length corners → q < length corners → from corners p ≡ v → from corners q ≡ v → RoundTo corners begins p q
 
 -- a vertex that some edge leaves has a start
 pub record Start (corners : List ℕ) (v : ℕ) : Type 0 where
@@ -82,7 +82,7 @@ module _ {corners begins : List ℕ} (L : Laid corners begins) (P : Paired corne
           let n = any-false (isBack corners begins (start corners v)) (k - 1) e (j - 1) (omega arith) in
           eqb-false _ _ n (ap (λ i. iterate (roundOf corners begins) i (start corners v)) s ∙ r)
 
-      met : (p q : ℕ) → p < length corners → q < length corners → from corners p ≡ v → from corners q ≡ v → Stepped corners begins p q
+      met : (p q : ℕ) → p < length corners → q < length corners → from corners p ≡ v → from corners q ≡ v → RoundTo corners begins p q
       met p q l m s t =
           let z = started corners v (degree-some corners v l s) in
           let (i, c, d) = reached S (z .below) (z .leaving) (le-refl k) no-return p l (eq-eqb _ _ s) in
@@ -92,7 +92,7 @@ module _ {corners begins : List ℕ} (L : Laid corners begins) (P : Paired corne
 
   -- and the other way, where each is reached from one
   pub ring-from : {p : ℕ} → p < length corners → from corners p ≡ v
-      → ((q : ℕ) → q < length corners → from corners q ≡ v → Stepped corners begins p q) → broken corners begins v ≡ false
+      → ((q : ℕ) → q < length corners → from corners q ≡ v → RoundTo corners begins p q) → broken corners begins v ≡ false
   ring-from {p} l s all = any-none back (degree corners v - 1) (λ i b. is-false (back i) (λ e. early i b (eqb-true _ _ e)))
     where
       back : ℕ → Bool
@@ -117,15 +117,15 @@ module _ {corners begins : List ℕ} (L : Laid corners begins) (P : Paired corne
 -- ---- the ring that starts at the first facet at the vertex
 
 -- the first place of an edge that leaves v
-abbrev pub firstOf : List ℕ → ℕ → ℕ
-firstOf corners v = firstBelow (leaves corners v) (length corners)
+abbrev pub firstLeaving : List ℕ → ℕ → ℕ
+firstLeaving corners v = firstBelow (leaves corners v) (length corners)
 
 -- its ring holds every facet at v
 abbrev pub HoldsAll : List ℕ → List ℕ → ℕ → Type 0
-HoldsAll corners begins v = (q : ℕ) → q < length corners → from corners q ≡ v → Stepped corners begins (firstOf corners v) q
+HoldsAll corners begins v = (q : ℕ) → q < length corners → from corners q ≡ v → RoundTo corners begins (firstLeaving corners v) q
 
 module _ {corners begins : List ℕ} (L : Laid corners begins) (P : Paired corners begins) (v : ℕ) where
-  begun : {q : ℕ} → q < length corners → from corners q ≡ v → (firstOf corners v < length corners) × (from corners (firstOf corners v) ≡ v)
+  begun : {q : ℕ} → q < length corners → from corners q ≡ v → (firstLeaving corners v < length corners) × (from corners (firstLeaving corners v) ≡ v)
   begun {q} l s =
       let b = some-first (leaves corners v) (length corners) q l (eq-eqb _ _ s) in
       (b, eqb-true _ _ (first-holds (leaves corners v) (length corners) b))
@@ -133,7 +133,7 @@ module _ {corners begins : List ℕ} (L : Laid corners begins) (P : Paired corne
   -- RING leaves v be exactly where that ring holds all: the place from which it is followed makes no difference
   pub first-ring : broken corners begins v ≡ false ↔ HoldsAll corners begins v
   first-ring = (
-    λ e q l s. let (b, t) = begun l s in one-ring L P v e .met (firstOf corners v) q b l t s,
+    λ e q l s. let (b, t) = begun l s in one-ring L P v e .met (firstLeaving corners v) q b l t s,
     λ all. ring-one L P v (record { met = λ p q l m s t. let (b, u) = begun l s in one-ring L P v (ring-from L P v b u all) .met p q l m s t }),
   )
 

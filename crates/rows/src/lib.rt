@@ -3,13 +3,13 @@ ghost use mathlib.Core.Path.{_≡_};
 ghost use Prim.Native.Nat.{_<_};
 ghost use Rattle.whole.specs.Bounds.{Exact};
 ghost use Rattle.space.specs.Vectors.{_·_};
-ghost use Rattle.space.specs.Rows.{Row, Rows, longest, widest, broadest, largest, vecOf, detOf};
+ghost use Rattle.space.specs.Rows.{BoundedRow, ThreeRows, longest, widest, broadest, largest, vecOf, detOf};
 ghost use Rattle.space.specs.Nought.{isNought};
-ghost use Rattle.rows.specs.Cross.{MinorAt, Crossed};
+ghost use Rattle.rows.specs.Cross.{MinorAt, CrossProduct};
 
 // The determinant of columns j and k of two rows, the first of a normal or a step, the second of a step.
 fn minor_at(p: [i64; 3], q: [i64; 3], j: usize, k: usize) -> i64
-    requires { ⌜ Row widest p × Row longest q × (j < 3) × (k < 3) ⌝ }
+    requires { ⌜ BoundedRow widest p × BoundedRow longest q × (j < 3) × (k < 3) ⌝ }
     ensures { λ r. ⌜ MinorAt p q j k r ⌝ }
 {
     space::minor(p[j], p[k], q[j], q[k])
@@ -17,8 +17,8 @@ fn minor_at(p: [i64; 3], q: [i64; 3], j: usize, k: usize) -> i64
 
 // The cross product of a normal or a step and a step.
 pub fn cross(p: [i64; 3], q: [i64; 3]) -> [i64; 3]
-    requires { ⌜ Row widest p × Row longest q ⌝ }
-    ensures { λ r. ⌜ Crossed p q r ⌝ }
+    requires { ⌜ BoundedRow widest p × BoundedRow longest q ⌝ }
+    ensures { λ r. ⌜ CrossProduct p q r ⌝ }
 {
     [
         minor_at(p, q, 1, 2),
@@ -29,7 +29,7 @@ pub fn cross(p: [i64; 3], q: [i64; 3]) -> [i64; 3]
 
 // The sum of the products of two rows.
 fn along(n: [i64; 3], r: [i64; 3]) -> i64
-    requires { ⌜ Row broadest n × Row longest r ⌝ }
+    requires { ⌜ BoundedRow broadest n × BoundedRow longest r ⌝ }
     ensures { λ s. ⌜ Exact largest (vecOf n · vecOf r) s ⌝ }
 {
     space::dot(n[0], n[1], n[2], r[0], r[1], r[2])
@@ -37,7 +37,7 @@ fn along(n: [i64; 3], r: [i64; 3]) -> i64
 
 // The determinant of three rows of three whole numbers, along the last row, so that the other two can be worked out once for many.
 pub fn determinant(m: [[i64; 3]; 3]) -> i64
-    requires { ⌜ Rows m ⌝ }
+    requires { ⌜ ThreeRows m ⌝ }
     ensures { λ r. ⌜ r ≡ detOf m ⌝ }
 {
     along(cross(m[0], m[1]), m[2])
@@ -45,7 +45,7 @@ pub fn determinant(m: [[i64; 3]; 3]) -> i64
 
 // Whether a vector is nought.
 pub fn is_nought(n: [i64; 3]) -> bool
-    requires { ⌜ Row widest n ⌝ }
+    requires { ⌜ BoundedRow widest n ⌝ }
     ensures { λ r. ⌜ r ≡ isNought n ⌝ }
 {
     if !space::is_zero(n[0]) {

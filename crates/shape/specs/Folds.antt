@@ -35,8 +35,8 @@ module _ (points : List ℤ) {corners begins : List ℕ} (L : Laid corners begin
   below p = place-names points L p .below
 
   -- the facet across the edge at position i of f
-  abbrev beyond : ℕ → ℕ → ℕ
-  beyond f i = facetAcross corners begins (begin begins f + i)
+  abbrev facing : ℕ → ℕ → ℕ
+  facing f i = facetAcross corners begins (begin begins f + i)
 
   -- position j of g names the reverse of the edge at position i of f
   record Opposite (f i g j : ℕ) : Type 0 where
@@ -44,18 +44,18 @@ module _ (points : List ℤ) {corners begins : List ℕ} (L : Laid corners begin
     pub end : next t g j ≡ cornerOf corners begins f i
 
   module _ (P : Paired corners begins) where
-    beyond-is : {f i g j : ℕ} → Place t f i → Place t g j → Opposite f i g j → beyond f i ≡ g
-    beyond-is {f} {i} {g} {j} p q o =
+    facing-is : {f i g j : ℕ} → Place t f i → Place t g j → Opposite f i g j → facing f i ≡ g
+    facing-is {f} {i} {g} {j} p q o =
         let r = across P (below p) in
         let starts = r .starts ∙ to-is p ∙ sym (o .start) ∙ sym (from-is q) in
         let ends = r .ends ∙ from-is p ∙ sym (o .end) ∙ sym (to-is q) in
         ap (homeOf begins) (edge-once P (r .below) (below q) starts ends) ∙ sym (home-is L (place-in L (q .facet) (q .position)))
 
     -- and there is such a position
-    opposite : {f i : ℕ} → Place t f i → (j : ℕ) × Place t (beyond f i) j × Opposite f i (beyond f i) j
+    opposite : {f i : ℕ} → Place t f i → (j : ℕ) × Place t (facing f i) j × Opposite f i (facing f i) j
     opposite {f} {i} p =
         let r = across P (below p) in
-        let g = beyond f i in
+        let g = facing f i in
         let h = home L (r .below) in
         let j = acrossOf corners begins (begin begins f + i) - begin begins g in
         let s : begin begins g + j ≡ acrossOf corners begins (begin begins f + i) = omega (arith, h .low) in
@@ -65,11 +65,11 @@ module _ (points : List ℤ) {corners begins : List ℕ} (L : Laid corners begin
         (j, q, record { start = start; end = end })
 
     -- REFLEX at position i of f
-    beyond-none : (f i : ℕ) → f < facets begins → isReflex points corners begins f i ≡ false
-        → (g : ℕ) → g < facets begins → beyond f i ≡ g → (m : ℕ) → m < sides begins g
+    facing-none : (f i : ℕ) → f < facets begins → isReflex points corners begins f i ≡ false
+        → (g : ℕ) → g < facets begins → facing f i ≡ g → (m : ℕ) → m < sides begins g
         → isNotInside points (facetOf corners begins f) (cornerOf corners begins f i) (next t f i) (cornerOf corners begins g m) ≡ false
     unfolding isReflex
-    beyond-none f i l e g k s m h =
+    facing-none f i l e g k s m h =
         rw (next-is points L f i l) at (any-false _ (length (facetOf corners begins g)) (rw s at e) m (omega (arith, part-length L k)))
 
     pub no-reflex : reflex points corners begins ≡ Nothing → Reflex t
@@ -78,8 +78,8 @@ module _ (points : List ℤ) {corners begins : List ℕ} (L : Laid corners begin
         record {
           reflex = λ {f} {i} {g} {j} {m} p q s z k ca cb.
               let h = R f i (p .facet) (p .position) in
-              let b = beyond-is p q (record { start = s; end = z }) in
-              inside-below _ (other-than _ _ _ _ (beyond-none f i (p .facet) h g (q .facet) b m (k .position)) ca cb);
+              let b = facing-is p q (record { start = s; end = z }) in
+              inside-below _ (other-than _ _ _ _ (facing-none f i (p .facet) h g (q .facet) b m (k .position)) ca cb);
         }
 
     pub reflex-none : Reflex t → reflex points corners begins ≡ Nothing
@@ -88,5 +88,5 @@ module _ (points : List ℤ) {corners begins : List ℕ} (L : Laid corners begin
         let p : Place t f i = record { facet = l; position = h } in
         let (j, q, o) = opposite p in
         any-none _ _ (λ m k.
-        let r : Place t (beyond f i) m = record { facet = q .facet; position = omega (arith, k, part-length L (q .facet)) } in
+        let r : Place t (facing f i) m = record { facet = q .facet; position = omega (arith, k, part-length L (q .facet)) } in
         passed _ _ _ _ (λ ca cb. below-inside (R .reflex p q (o .start) (o .end) r ca (λ z. cb (z ∙ sym (next-is points L f i l)))))))

@@ -2,7 +2,7 @@
 ghost use mathlib.Core.Path.{_≡_};
 ghost use Prim.Native.Nat.{_<_};
 ghost use Rattle.whole.specs.Bounds.{Exact};
-ghost use Rattle.space.specs.Rows.{Row, ExactRow, longest, widest};
+ghost use Rattle.space.specs.Rows.{BoundedRow, ExactRow, longest, widest};
 ghost use Rattle.points.specs.Points.{Vertex, Ranged};
 ghost use Rattle.sides.specs.Sides.{Three, differenceOf, rowOf, normalOf, sign, sideOf, inLine, isLeft, isInside, isOn};
 
@@ -96,7 +96,7 @@ pub fn in_line(points: &[i32], a: u16, b: u16, c: u16) -> bool
 // Whether c lies strictly left of the edge from a to b, seen against the normal n.
 pub fn is_left(points: &[i32], n: [i64; 3], a: u16, b: u16, c: u16) -> bool
     requires { ⌜ Three (now points) a b c ⌝ }
-    requires { ⌜ Row widest n ⌝ }
+    requires { ⌜ BoundedRow widest n ⌝ }
     ensures { λ r. ⌜ r ≡ isLeft (now (points .entry)) n a b c ⌝ }
 {
     space::is_above(rows::determinant([n, row(points, a, b), row(points, a, c)]))

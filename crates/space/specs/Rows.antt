@@ -32,13 +32,13 @@ abbrev pub Minor : ℤ → Type 0
 Minor z = z within widest
 
 -- each number of a row is within N
-pub record Row (N : ℕ) (r : List ℤ) : Type 0 where
+pub record BoundedRow (N : ℕ) (r : List ℤ) : Type 0 where
   pub at : (j : ℕ) → getD r j (pos 0) within N
 
 -- what a function that computes the row z promises of its result r
 pub record ExactRow (N : ℕ) (z r : List ℤ) : Type 0 where
   pub is : r ≡ z
-  pub small : Row N r
+  pub small : BoundedRow N r
 
 -- the determinant r of a b and c d, smaller where a b is of a step
 pub record Minored (a b c d r : ℤ) : Type 0 where
@@ -46,10 +46,10 @@ pub record Minored (a b c d r : ℤ) : Type 0 where
   pub small : Difference a → Difference b → Minor r
 
 -- the first row may be a normal, the other two are steps
-pub record Rows (m : List (List ℤ)) : Type 0 where
-  pub first : Row widest (getD m 0 [])
-  pub second : Row longest (getD m 1 [])
-  pub third : Row longest (getD m 2 [])
+pub record ThreeRows (m : List (List ℤ)) : Type 0 where
+  pub first : BoundedRow widest (getD m 0 [])
+  pub second : BoundedRow longest (getD m 1 [])
+  pub third : BoundedRow longest (getD m 2 [])
 
 -- a row as a vector, and a vector as a row
 abbrev pub vecOf : List ℤ → Vec ℤ
@@ -65,7 +65,7 @@ detOf m = det (vecOf (getD m 0 [])) (vecOf (getD m 1 [])) (vecOf (getD m 2 []))
 abbrev pub crossOf : List ℤ → List ℤ → List ℤ
 crossOf p q = listOf (cross ints (vecOf p) (vecOf q))
 
-pub row-of : {N : ℕ} {x y z : ℤ} → x within N → y within N → z within N → Row N (x ∷ y ∷ z ∷ [])
+pub row-of : {N : ℕ} {x y z : ℤ} → x within N → y within N → z within N → BoundedRow N (x ∷ y ∷ z ∷ [])
 row-of {N} {x} {y} {z} p q r = record { at = each }
   where
     each : (j : ℕ) → getD (x ∷ y ∷ z ∷ []) j (pos 0) within N
@@ -75,7 +75,7 @@ row-of {N} {x} {y} {z} p q r = record { at = each }
     each (suc (suc (suc j))) = record { abs = zero-le }
 
 -- a row of steps may stand in the first place
-pub row-wide : {r : List ℤ} → Row longest r → Row widest r
+pub row-wide : {r : List ℤ} → BoundedRow longest r → BoundedRow widest r
 row-wide h = record { at = λ j. within-≤ (h .at j) (omega arith) }
 
 pub exact-row : {N : ℕ} {a b c x y z : ℤ} → Exact N a x → Exact N b y → Exact N c z → ExactRow N (a ∷ b ∷ c ∷ []) (x ∷ y ∷ z ∷ [])

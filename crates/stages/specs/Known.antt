@@ -5,7 +5,7 @@ use Prim.Native.Nat.{ℕ, _≤_}
 use native.Mathlib.Omega.{arith}
 use lib.IntN.{ℤ}
 use Rattle.tables.specs.Size.{isSize}
-use Rattle.answers.specs.Order.{Rule, Passes, whole, never}
+use Rattle.answers.specs.Order.{Rule, Passes, ofAll, applies-never}
 use Rattle.answers.specs.declared.Fault.{Fault}
 use Rattle.answers.specs.declared.Fault.the-variants.{Breaks, None}
 use Rattle.limits.specs.Rules.{in-limits}
@@ -23,7 +23,7 @@ measured {points} o = record { ranged = in-limits points (o .ranges); sound = al
 module _ (points : List ℤ) (corners begins : List ℕ) {later : List Rule} {n : ℕ} (P : Passes (rulesToTurn points corners begins ++ later) n) where
   pub after-3 : 3 ≤ n → InOrder points corners begins
   after-3 l = record {
-    sizes = never (whole (isSize points corners begins)) (P .none 0 (omega arith));
+    sizes = applies-never (ofAll (isSize points corners begins)) (P .none 0 (omega arith));
     ranges = P .none 1 (omega arith);
     numbers = P .none 2 (omega arith);
   }

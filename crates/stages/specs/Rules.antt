@@ -6,7 +6,7 @@ use Rattle.points.specs.Points.{vertices}
 use Rattle.tables.specs.Tables.{facets, begin, sides}
 use Rattle.names.specs.Rules.{again, unnamed}
 use Rattle.tables.specs.Facets.{onFacets}
-use Rattle.answers.specs.Order.{Rule, rule, each, within}
+use Rattle.answers.specs.Order.{Rule, rule, ofEach, ofPlaces}
 use Rattle.limits.specs.InOrder.{limitRules}
 use Rattle.pair.specs.Pair.{unpaired}
 use Rattle.ring.specs.Ring.{broken}
@@ -17,19 +17,19 @@ use Rattle.turn.specs.Rules.{isTurn}
 abbrev pub rulesFromRepeat : List ℤ → List ℕ → List ℕ → List Rule
 rulesFromRepeat points corners begins =
     -- "a facet names a vertex again"
-    rule 4 (within (facets begins) (sides begins) (onFacets corners begins again))
+    rule 4 (ofPlaces (facets begins) (sides begins) (onFacets corners begins again))
     -- "no facet names this vertex"
-    ∷ rule 5 (each (vertices points) (unnamed corners))
+    ∷ rule 5 (ofEach (vertices points) (unnamed corners))
     -- "a directed edge occurs more than once, or its reverse doesn't occur exactly once"
-    ∷ rule 6 (within (facets begins) (sides begins) (λ f p. unpaired corners begins (begin begins f + p)))
+    ∷ rule 6 (ofPlaces (facets begins) (sides begins) (λ f p. unpaired corners begins (begin begins f + p)))
     -- "the facets at a vertex, stepped across edges at that vertex, make more than one ring"
-    ∷ rule 7 (each (vertices points) (broken corners begins))
+    ∷ rule 7 (ofEach (vertices points) (broken corners begins))
     -- "facet can't be reached from facet 0 across edges"
-    ∷ rule 8 (each (facets begins) (isApart corners begins))
+    ∷ rule 8 (ofEach (facets begins) (isApart corners begins))
     -- "first three corners in line (position 2), or a later corner off the plane"
-    ∷ rule 9 (within (facets begins) (sides begins) (onFacets corners begins (isBent points)))
+    ∷ rule 9 (ofPlaces (facets begins) (sides begins) (onFacets corners begins (isBent points)))
     -- "for edge a to b, a corner c other than a, b has n·((b-a)×(c-a)) not above 0"
-    ∷ rule 10 (within (facets begins) (sides begins) (onFacets corners begins (isTurn points)))
+    ∷ rule 10 (ofPlaces (facets begins) (sides begins) (onFacets corners begins (isTurn points)))
     ∷ []
 
 abbrev pub rulesToTurn : List ℤ → List ℕ → List ℕ → List Rule

@@ -39,12 +39,12 @@ listed-take ns zero h = refl
 listed-take ns (suc n) h = let l : n < length ns = omega arith in rw (listed-take ns n (omega arith), take-suc ns n 0 l)
 
 -- a record of this kind and body at `at`
-record Stands (s : List ℕ) (at kind : ℕ) (ns : List ℕ) : Type 0 where
+record StandsAt (s : List ℕ) (at kind : ℕ) (ns : List ℕ) : Type 0 where
   first : getD s at 0 ≡ kind
   numbers : numbersAt s (at + 1) (length ns) ≡ ns
   inside : at + (1 + 2 * length ns) ≤ length s
 
-stands : (pre : List ℕ) (kind : ℕ) (ns post : List ℕ) → Sixteen ns → Stands (pre ++ (framed kind ns ++ post)) (length pre) kind ns
+stands : (pre : List ℕ) (kind : ℕ) (ns post : List ℕ) → Sixteen ns → StandsAt (pre ++ (framed kind ns ++ post)) (length pre) kind ns
 stands pre kind ns post h =
     let l = packed ns ++ post in
     let s = pre ++ (kind ∷ l) in
@@ -60,7 +60,7 @@ stands pre kind ns post h =
     }
 
 stands-at : {s : List ℕ} {at : ℕ} (pre : List ℕ) (kind : ℕ) (ns post : List ℕ) → Sixteen ns → s ≡ pre ++ (framed kind ns ++ post) → length pre ≡ at
-    → Stands s at kind ns
+    → StandsAt s at kind ns
 stands-at pre kind ns post h e l = rw (e, ← l) (stands pre kind ns post h)
 
 -- ---- the points
@@ -69,7 +69,7 @@ module _ {points : List ℤ} {corners begins : List ℕ} (h : Holds points corne
   abbrev s : List ℕ
   s = tape points corners begins
 
-  stands-point : (v : ℕ) → v < vertices points → Stands s (7 * v) 1 (body (pointOf points v))
+  stands-point : (v : ℕ) → v < vertices points → StandsAt s (7 * v) 1 (body (pointOf points v))
   stands-point v l =
       let r = joined-split (λ k. bytes (pointOf points k)) v (vertices points) l in
       stands-at (pointBytes points v) 1 (body (pointOf points v))
@@ -120,7 +120,7 @@ module _ {points : List ℤ} {corners begins : List ℕ} (h : Holds points corne
   length-before : (f : ℕ) → f < length begins → length (pointBytes points (vertices points) ++ facetBytes corners begins f) ≡ offset f
   length-before f l = rw (length-append, length-points points (vertices points), length-facets (h .divided) f l)
 
-  stands-facet : (f : ℕ) → f < facets begins → Stands s (offset f) (length (facetOf corners begins f)) (facetOf corners begins f)
+  stands-facet : (f : ℕ) → f < facets begins → StandsAt s (offset f) (length (facetOf corners begins f)) (facetOf corners begins f)
   stands-facet f l =
       let r = joined-split (λ k. bytes (facet (facetOf corners begins k))) f (facets begins) l in
       stands-at (pointBytes points (vertices points) ++ facetBytes corners begins f) (length (facetOf corners begins f)) (facetOf corners begins f)
@@ -169,7 +169,7 @@ module _ {points : List ℤ} {corners begins : List ℕ} (h : Holds points corne
 
   -- ---- the end, and the whole
 
-  stands-end : Stands s (offset (facets begins)) 0 (vertices points ∷ facets begins ∷ [])
+  stands-end : StandsAt s (offset (facets begins)) 0 (vertices points ∷ facets begins ∷ [])
   stands-end =
       stands-at (pointBytes points (vertices points) ++ facetBytes corners begins (facets begins)) 0 (vertices points ∷ facets begins ∷ []) []
       (sixteen-append (sixteen-one (omega (arith, h .placed .few))) (sixteen-one (omega (arith, h .divided .most))))

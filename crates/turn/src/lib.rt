@@ -4,7 +4,7 @@ ghost use Prim.Native.Nat.{_<_};
 ghost use lib.ListN.{length, getD};
 ghost use Rattle.whole.specs.First.{firstBelow, anyBelow};
 ghost use Rattle.points.specs.Points.{Vertex};
-ghost use Rattle.space.specs.Rows.{Row, widest};
+ghost use Rattle.space.specs.Rows.{BoundedRow, widest};
 ghost use Rattle.sides.specs.Sides.{Three};
 ghost use Rattle.flat.specs.Facet.{Facet, Measured};
 ghost use Rattle.turn.specs.Rules.{strays, isTurn, turn};
@@ -12,7 +12,7 @@ ghost use Rattle.turn.specs.Rules.{strays, isTurn, turn};
 // Whether corner c, other than a and b, is not strictly left of the edge from a to b.
 fn strays(points: &[i32], n: [i64; 3], a: u16, b: u16, c: u16) -> bool
     requires { ⌜ Three (now points) a b c ⌝ }
-    requires { ⌜ Row widest n ⌝ }
+    requires { ⌜ BoundedRow widest n ⌝ }
     ensures { λ r. ⌜ r ≡ strays (now (points .entry)) n a b c ⌝ }
 {
     if c == a {
@@ -26,7 +26,7 @@ fn strays(points: &[i32], n: [i64; 3], a: u16, b: u16, c: u16) -> bool
 
 // Whether some corner of a facet strays from the edge from a to b.
 fn some_stray(points: &[i32], part: &[u16], n: [i64; 3], a: u16, b: u16) -> bool
-    requires { ⌜ Facet (now points) (now part) × Row widest n × Vertex (now points) a × Vertex (now points) b ⌝ }
+    requires { ⌜ Facet (now points) (now part) × BoundedRow widest n × Vertex (now points) a × Vertex (now points) b ⌝ }
     ensures { λ r. ⌜ r ≡ anyBelow (λ q. strays (now (points .entry)) n a b (getD (now (part .entry)) q 0)) (length (now (part .entry))) ⌝ }
 {
     let mut q = 0;

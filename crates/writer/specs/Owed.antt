@@ -12,7 +12,7 @@ use Rattle.points.specs.Points.{vertices}
 use Rattle.tables.specs.Tables.{mostVertices, mostFacets, mostCorners, facets}
 use Rattle.tables.specs.Size.{sized}
 use Rattle.limits.specs.Rules.{in-limits}
-use Rattle.answers.specs.Answer.{fault, refused, ofLength, numberOf}
+use Rattle.answers.specs.Answer.{fault, refused, ofLength, faultNumber}
 use Rattle.answers.specs.Order.{firstOf, numbered, number-0}
 use Rattle.answers.specs.declared.Fault.the-variants.{Breaks, None}
 use Rattle.answers.specs.declared.Answer.{Answer}
@@ -52,7 +52,7 @@ never-0 : (points : List ℤ) (corners begins : List ℕ) {number first second :
     → number ≡ 0 → ⊥
 unfolding numbered
 never-0 points corners begins {number} {first} {second} h z =
-    let e : numberOf (firstOf (limitRules points corners begins)) ≡ 0 = ap numberOf h ∙ z in
+    let e : faultNumber (firstOf (limitRules points corners begins)) ≡ 0 = ap faultNumber h ∙ z in
     let n : Breaks number first second ≡ None = sym h ∙ number-0 (limitRules points corners begins) refl e in
     let y : _≡_ {A = ℕ} 0 1 = cc in
     omega arith

@@ -1,7 +1,7 @@
 -- `judge::judge_with_index` meets its contract. Assumes nothing.
 use mathlib.Core.Path.{sym, ap, _∙_}
 use native.Mathlib.Omega.{arith}
-use Rattle.answers.specs.Answer.{answerOf, numberOf, answer-number}
+use Rattle.answers.specs.Answer.{answerOf, faultNumber, answer-number}
 use Rattle.answers.specs.Order.{all-pass}
 use Rattle.judge.specs.Judge.{rules, judged}
 use Rattle.stages.specs.Known.{measured-after}
@@ -32,7 +32,7 @@ returns c =
       record {
         indexed = λ e.
             let n = sym (answer-number points corners begins (f .first-fault .result)) ∙ sym (ap (λ r. r .number) (c .of .ensures)) ∙ e in
-            index .indexed (first ∙ none-broken points corners begins (ap numberOf (sym first) ∙ n));
+            index .indexed (first ∙ none-broken points corners begins (ap faultNumber (sym first) ∙ n));
       },
     )
 

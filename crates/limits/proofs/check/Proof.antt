@@ -4,7 +4,7 @@ use mathlib.Core.Path.{_≡_, refl, sym, _∙_}
 use mathlib.Core.Bool.{false}
 use mathlib.Core.List.{List}
 use Rattle.tables.specs.Size.{isSize, sized}
-use Rattle.answers.specs.Order.{Rule, whole, at-first, nothing, Passes, passes-0, passes-more, first-here, none-later}
+use Rattle.answers.specs.Order.{Rule, ofAll, first-applies, never-applies, Passes, passes-0, passes-more, first-here, none-later}
 use Rattle.limits.specs.InOrder.{limitRules}
 use Rattle.limits.proofs.check.Statement.{statement}
 use Rattle.limits.proofs.check.Tie as tie
@@ -19,14 +19,14 @@ returns : tie.Need-returns
 returns c =
     let s = start (c .before) in
     let size = isSize (s .args .points .now) (s .args .corners .now) (s .args .begins .now) in
-    first-here (rules s) 0 passes-0 (at-first (whole size) (sym (c .before .size .ensures) ∙ c .if1 .taken, (refl, refl)))
+    first-here (rules s) 0 passes-0 (first-applies (ofAll size) (sym (c .before .size .ensures) ∙ c .if1 .taken, (refl, refl)))
 
 -- SIZE has passed ..
 no-size : (c : tie.Else1) → let a = start (c .before) .args in isSize (a .points .now) (a .corners .now) (a .begins .now) ≡ false
 no-size c = sym (c .before .size .ensures) ∙ c .if1 .left
 
 one : (c : tie.Else1) → Passes (rules (start (c .before))) 1
-one c = passes-more passes-0 (nothing (whole _) (no-size c))
+one c = passes-more passes-0 (never-applies (ofAll _) (no-size c))
 
 returns-2 : tie.Need-returns-2
 returns-2 c =

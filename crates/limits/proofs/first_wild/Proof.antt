@@ -16,11 +16,13 @@ abbrev μ-loop : tie.MeasureT-loop
 
 returns : tie.Need-returns Inv-loop μ-loop
 returns c =
-    found (c .before .before .before .before .loop .inv .1) (rw (← (c .before .wide .ensures .is)) (le-leb _ _ (c .if1 .taken))) (search needs)
+    let w = c .before in
+    found (w .before .before .before .loop .inv .1) (rw (← (w .wide .ensures .is)) (le-leb _ _ (c .if1 .taken))) (search needs)
 
 loop-again : tie.Need-loop-again Inv-loop μ-loop
 loop-again c =
-    (search needs, none-more (c .before .before .before .before .loop .inv .1) (rw (← (c .before .wide .ensures .is)) (lt-leb _ _ (c .if1 .left))))
+    let w = c .before in
+    (search needs, none-more (w .before .before .before .loop .inv .1) (rw (← (w .wide .ensures .is)) (lt-leb _ _ (c .if1 .left))))
 
 pub first-wild-spec : {M : Type 1} → statement M
 first-wild-spec =

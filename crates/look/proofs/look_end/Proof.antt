@@ -33,7 +33,9 @@ returns-3 c =
     )
 
 -- both counts are those of the records
-counted : (c : tie.Else3) → let f = c .before in let v = f .before .before in let a = v .before .before .before .args in
+counted : (c : tie.Else3)
+    → let v = c .before .before .before in
+    let a = v .before .before .before .args in
     endAt (a .tape .now) (a .at) (a .v) (a .f) ≡ cond (ltb 5 (length (a .tape .now) - a .at)) (Bad 22 (a .at + 5)) End
 counted c =
     let f = c .before in

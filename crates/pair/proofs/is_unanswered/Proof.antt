@@ -25,6 +25,12 @@ read c =
     let (index, l) = a .before .before .before .pre in
     rw (a .across-at .ensures) (across-at-below index l)
 
+own-small : tie.Need-end-at-requires
+own-small c κs =
+    let a = c .before .before .before in
+    let (index, l) = a .before .before .before .pre in
+    small index l
+
 returns-2 : tie.Need-returns-2
 returns-2 c =
     let e = c .before in
@@ -68,7 +74,7 @@ is-unanswered-spec =
     returns
     (λ c. let a = c .before .before in omega (arith, across-small a (a .across-at .lifetimes)))
     read
-    (λ c κs. let a = c .before .before .before in let (index, l) = a .before .before .before .pre in small index l)
+    own-small
     returns-2
     end-small
     (λ c. search needs)

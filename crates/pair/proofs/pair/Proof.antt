@@ -10,4 +10,10 @@ returns-2 c =
     sym (all-answered (sym (s .some-unanswered .ensures) ∙ c .if1 .left) (s .before .before .before .pre .tables .laid))
 
 pub pair-spec : {M : Type 1} → statement M
-pair-spec = tie.close (tie.spec (λ c κs. c .before .before .pre) (λ c κs. c .before .before .before .before .pre) (λ c. c .first-unpaired .ensures) returns-2)
+pair-spec =
+    tie.close
+    (tie.spec
+    (λ c κs. c .before .before .pre)
+    (λ c κs. c .before .before .before .before .pre)
+    (λ c. c .first-unpaired .ensures)
+    returns-2)

@@ -36,7 +36,9 @@ returns c =
 
 -- PAIR has passed
 six : (c : tie.After-enum-told) → Passes (rules (start (built (c .before .before) .before))) 6
-six c = passes-more (start (built (c .before .before) .before) .pre .0) (sym (c .before .before .pair .ensures) ∙ c .enum-told .given .1)
+six c =
+    let p = c .before .before in
+    passes-more (start (built p .before) .pre .0) (sym (p .pair .ensures) ∙ c .enum-told .given .1)
 
 from-ring-requires : tie.Need-from-ring-requires
 from-ring-requires c κs =
