@@ -23,7 +23,7 @@ impl Walked {
         }
     }
 
-    fn refused(number: u16) -> Self
+    pub fn refused(number: u16) -> Self
         ensures { λ r. ⌜ r ≡ halted (refused number) ⌝ }
     {
         Self::halted(answers::Answer::refused(number))

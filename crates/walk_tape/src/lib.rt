@@ -11,13 +11,7 @@ pub fn walk_tape(tape: &[u8], direction: direction::Direction, start: usize) -> 
     let mut begins = [0u16; reading::BEGIN_ROOM];
     let loaded = load::load(tape, &mut points, &mut corners, &mut begins);
     if loaded.number != 0 {
-        let answer = answers::Answer::refused(loaded.number);
-        return walk::Walked {
-            answer,
-            vertex: 0,
-            height: 0,
-            moves: 0,
-        };
+        return walk::Walked::refused(loaded.number);
     }
     let p = loaded.points;
     let c = loaded.corners;

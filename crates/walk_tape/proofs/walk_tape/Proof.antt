@@ -1,7 +1,6 @@
 -- `walk_tape::walk_tape` meets its contract. Assumes nothing.
 use borrow.Author.Needs.{needs}
-use mathlib.Core.Path.{_∙_, ap}
-use Rattle.walk.specs.Walk.{halted}
+use mathlib.Core.Path.{_∙_}
 use Rattle.load.specs.Tape.{of-tables, of-refusal}
 use Rattle.walk_tape.specs.Tape.{walkedTape, walkedFrom, atNothing}
 use Rattle.walk_tape.proofs.walk_tape.Statement.{statement}
@@ -18,7 +17,7 @@ returns c =
     let l = c .before .before .before in
     let a = start l .args in
     let e = l .load .ensures .refusal (c .before .if1 .taken) in
-    ap halted (c .refused .ensures) ∙ of-refusal _ (walkedFrom (a .direction) (a .start)) atNothing e
+    c .refused .ensures ∙ of-refusal _ (walkedFrom (a .direction) (a .start)) atNothing e
 
 returns-2 : tie.Need-returns-2
 unfolding walkedTape
