@@ -245,7 +245,8 @@ lowest-wins (r ∷ rs) s e i l p =
     go (λ e j m q. lowest-wins rs k e j m q) (above-each (r .number) rs h) (placeOf (r .search)) refl e i l p
   where
     go : {number a b c d : ℕ} → (firstOf rs ≡ Breaks number a b → (j : ℕ) → j < length rs → placeAt rs j ≡ At c d → number ≤ ruleNumber rs j)
-        → ((j : ℕ) → j < length rs → r .number < ruleNumber rs j) → (x : Found) → placeOf (r .search) ≡ x → orElse (r .number) x (firstOf rs) ≡ Breaks number a b
+        → ((j : ℕ) → j < length rs → r .number < ruleNumber rs j) → (x : Found) → placeOf (r .search) ≡ x
+        → orElse (r .number) x (firstOf rs) ≡ Breaks number a b
         → (i : ℕ) → i < length (r ∷ rs) → placeAt (r ∷ rs) i ≡ At c d → number ≤ ruleNumber (r ∷ rs) i
     go {number} h up (At x y) s e zero l p = let z : r .number ≡ number = cc in omega arith
     go {number} h up (At x y) s e (suc i) l p = let z : r .number ≡ number = cc in omega (arith, up i (omega arith))

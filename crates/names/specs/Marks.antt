@@ -26,7 +26,8 @@ marked : (named : List ℕ) (x v : ℕ) (b t : Bool) → x < length named → eq
 marked named x v b true l e m = rw (or-true b, ← eqb-true x v e) (getD-set-same named x 1 0 l)
 marked named x v b false l e m = rw or-false (getD-set-other named x v 1 0 (λ q. eqb-false x v e (sym q)) ∙ m)
 
-pub marks-more : {corners named : List ℕ} {i : ℕ} → Marks corners named i → getD corners i 0 < mostVertices → Marks corners (set named (getD corners i 0) 1) (i + 1)
+pub marks-more : {corners named : List ℕ} {i : ℕ} → Marks corners named i → getD corners i 0 < mostVertices
+    → Marks corners (set named (getD corners i 0) 1) (i + 1)
 marks-more {corners} {named} {i} m b =
     let x = getD corners i 0 in
     let l : x < length named = rw (m .long) b in

@@ -55,7 +55,8 @@ module _ (points : List ℤ) (corners begins : List ℕ) (d : Direction) (start 
   refused-by {n} e f = let z = ne-eqb (suc n) 0 (λ q. omega arith) in (rw (e, f, z), rw (e, f, z))
 
   -- each of them is the outcome ..
-  pub walk-end-is : {r : Walked} {t : List ℕ} → WalkEnd r t → (r ≡ walked points corners begins d start trail) × (t ≡ trailAfter points corners begins d start trail)
+  pub walk-end-is : {r : Walked} {t : List ℕ} → WalkEnd r t
+      → (r ≡ walked points corners begins d start trail) × (t ≡ trailAfter points corners begins d start trail)
   unfolding walked trailAfter
   walk-end-is (JUDGED n) = let z = ne-eqb _ _ n in (rw (z, z), rw (z, z))
   walk-end-is (START e l) = refused-by e (rw (le-leb _ _ l))
