@@ -3,11 +3,11 @@
 use mathlib.Core.Path.{_≡_, refl, ap}
 use mathlib.Core.Bool.{true}
 use mathlib.Core.List.{List}
-use Prim.Native.Nat.{ℕ, _≤_, _<_}
+use Prim.Native.Nat.{ℕ, _≤_}
 use lib.IntN.{ℤ}
 use Rattle.answers.specs.Answer.{answerOf}
 use Rattle.tables.specs.declared.Found.the-variants.{At}
-use Rattle.answers.specs.Order.{Given, given, given-is, firstOf, placeAt, ruleNumber, above, ascending, lowest-wins}
+use Rattle.answers.specs.Order.{Given, given, given-is, firstOf, placeFor, above, ascending, lowest-wins}
 use Rattle.answers.specs.declared.Answer.{Answer}
 use Rattle.answers.specs.declared.Fault.{Fault}
 use Rattle.answers.specs.declared.Fault.the-variants.{Breaks}
@@ -33,6 +33,6 @@ module _ (points : List ℤ) (corners begins : List ℕ) where
   unfolding ascending above
   rules-ascend = refl
 
-  pub lowest-number : {number a b c d : ℕ} → firstOf (rules points corners begins) ≡ Breaks number a b
-      → (i : ℕ) → i < 12 → placeAt (rules points corners begins) i ≡ At c d → number ≤ ruleNumber (rules points corners begins) i
+  pub lowest-number : {number a b : ℕ} → firstOf (rules points corners begins) ≡ Breaks number a b
+      → (k : ℕ) {c d : ℕ} → placeFor (rules points corners begins) k ≡ At c d → number ≤ k
   lowest-number = lowest-wins (rules points corners begins) rules-ascend

@@ -2,6 +2,7 @@
 use mathlib.Core.Path.{_≡_, refl}
 use mathlib.Core.List.{List}
 use Prim.Native.Nat.{ℕ}
+use native.Mathlib.Omega.{arith}
 use lib.IntN.{ℤ}
 use Rattle.points.specs.Points.{vertices}
 use Rattle.tables.specs.Tables.{facets, edges}
@@ -33,14 +34,19 @@ passed = accepted 0 0 0
 abbrev pub ofLength : ℕ → Answer
 ofLength length = accepted length 0 0
 
--- the record of the first fault, or else a later answer
-abbrev pub faultOr : Fault → Answer → Answer
-faultOr (Breaks number first second) later = fault number first second
-faultOr None later = later
-
--- the judge's record, from the tables
+-- the judge's record of the tables' first fault, or of none
 abbrev pub answerOf : List ℤ → List ℕ → List ℕ → Fault → Answer
-answerOf points corners begins first = faultOr first (accepted (vertices points) (edges corners) (facets begins))
+answerOf points corners begins (Breaks number first second) = fault number first second
+answerOf points corners begins None = accepted (vertices points) (edges corners) (facets begins)
+
+-- "as the judge does" where there is a fault, or else a later answer
+abbrev pub judgedOr : List ℤ → List ℕ → List ℕ → Fault → Answer → Answer
+judgedOr points corners begins (Breaks number first second) later = answerOf points corners begins (Breaks number first second)
+judgedOr points corners begins None later = later
+
+-- a fault isn't none
+pub some-fault : {number first second : ℕ} → _≡_ {A = Fault} (Breaks number first second) None → ⊥
+some-fault e = let z : _≡_ {A = ℕ} 0 1 = cc in omega arith
 
 -- its number: that of the first fault, or 0
 abbrev pub faultNumber : Fault → ℕ

@@ -2,17 +2,15 @@
 use mathlib.Core.Path.{_≡_, refl, sym, ap, _∙_}
 use mathlib.Core.Bool.{Bool, true, false, cond, true≢false}
 use mathlib.Core.List.{List, [], _∷_, _++_}
-use Prim.Native.Nat.{ℕ, zero, suc, _+_, _≤_, _<_}
+use Prim.Native.Nat.{ℕ, _≤_, _<_}
 use native.Mathlib.Omega.{arith}
-use native.Mathlib.Decide.{decLt}
-use lib.Dec.{ltb}
-use lib.ListN.{length}
-use borrow.Author.Tests.{ltb-true}
+use lib.Dec.{eqb, ltb}
+use borrow.Author.Tests.{eqb-true, ltb-true}
 use Rattle.tables.specs.Found.{lowest, firstPlace, Lowest, First, Nowhere, NoPlace, Searched, Sought, found-at, found-none, place-at, place-none}
 use Rattle.tables.specs.Found.{searched, sought, lowest-none, first-none, lowest-is, nowhere-is, first-is, no-place-is}
 use Rattle.tables.specs.declared.Found.{Found}
 use Rattle.tables.specs.declared.Found.the-variants.{At, Nothing}
-use Rattle.answers.specs.Answer.{faultNumber}
+use Rattle.answers.specs.Answer.{faultNumber, some-fault}
 use Rattle.answers.specs.declared.Fault.{Fault}
 use Rattle.answers.specs.declared.Fault.the-variants.{Breaks, None}
 
@@ -119,82 +117,95 @@ given-is none = refl
 
 -- ---- what is known on the way
 
--- where rule number i of the list, from 0, applies first
-abbrev pub placeAt : List Rule → ℕ → Found
-placeAt [] i = Nothing
-placeAt (r ∷ rs) zero = placeOf (r .search)
-placeAt (r ∷ rs) (suc i) = placeAt rs i
+-- no rule of the list applies anywhere
+abbrev pub Passes : List Rule → Type 0
+Passes rs = firstOf rs ≡ None
 
--- the first n rules apply nowhere
-pub record Passes (rs : List Rule) (n : ℕ) : Type 0 where
-  pub none : (i : ℕ) → i < n → placeAt rs i ≡ Nothing
-
-pub passes-0 : {rs : List Rule} → Passes rs 0
-passes-0 = record { none = λ i l. absurd (omega arith) }
-
-pub passes-more : {rs : List Rule} {n : ℕ} → Passes rs n → placeAt rs n ≡ Nothing → Passes rs (n + 1)
-passes-more {rs} {n} P e = record {
-  none = λ i l. elim (decLt i n) [
-    | yes b ↦ P .none i b
-    | no b ↦ let s : i ≡ n = omega arith in rw s e
-  ];
-}
-
-rest : {r : Rule} {rs : List Rule} {n : ℕ} → Passes (r ∷ rs) (suc n) → Passes rs n
-rest P = record { none = λ i l. P .none (suc i) (omega arith) }
-
--- no rule of the list applies
-pub all-pass : (rs : List Rule) → firstOf rs ≡ None → Passes rs (length rs)
+pub passes-none : Passes []
 unfolding firstOf
-all-pass [] e = passes-0
-all-pass (r ∷ rs) e = go (all-pass rs) (placeOf (r .search)) refl e
+passes-none = refl
+
+-- the rules of the list from this number on ..
+abbrev pub rulesFrom : ℕ → List Rule → List Rule
+rulesFrom k [] = []
+rulesFrom k (r ∷ rs) = cond (eqb (r .number) k) (r ∷ rs) (rulesFrom k rs)
+
+-- .. and those after it
+abbrev pub rulesAfter : ℕ → List Rule → List Rule
+rulesAfter k [] = []
+rulesAfter k (r ∷ rs) = cond (eqb (r .number) k) rs (rulesAfter k rs)
+
+-- where the rule of this number applies first
+abbrev pub placeFor : List Rule → ℕ → Found
+placeFor [] k = Nothing
+placeFor (r ∷ rs) k = cond (eqb (r .number) k) (placeOf (r .search)) (placeFor rs k)
+
+-- it applies, so it is the first fault from there on ..
+pub first-at : (rs : List Rule) (k : ℕ) {a b : ℕ} → placeFor rs k ≡ At a b → Breaks k a b ≡ firstOf (rulesFrom k rs)
+unfolding firstOf
+first-at [] k e = absurd (differ (sym e))
+first-at (r ∷ rs) k {a} {b} e = go (λ h. first-at rs k h) (eqb (r .number) k) refl e
   where
-    join : placeOf (r .search) ≡ Nothing → Passes rs (length rs) → (i : ℕ) → i < suc (length rs) → placeAt (r ∷ rs) i ≡ Nothing
-    join s P zero l = s
-    join s P (suc i) l = P .none i (omega arith)
+    go : (placeFor rs k ≡ At a b → Breaks k a b ≡ firstOf (rulesFrom k rs)) → (t : Bool) → eqb (r .number) k ≡ t
+        → cond t (placeOf (r .search)) (placeFor rs k) ≡ At a b → Breaks k a b ≡ firstOf (cond t (r ∷ rs) (rulesFrom k rs))
+    go h true s e = rw (e, eqb-true (r .number) k s)
+    go h false s e = h e
 
-    go : (firstOf rs ≡ None → Passes rs (length rs)) → (p : Found) → placeOf (r .search) ≡ p → orElse (r .number) p (firstOf rs) ≡ None
-        → Passes (r ∷ rs) (suc (length rs))
-    go h (At a b) s e = let z : _≡_ {A = ℕ} 0 1 = cc in absurd (omega arith)
-    go h Nothing s e = record { none = join s (h e) }
-
-abbrev pub ruleNumber : List Rule → ℕ → ℕ
-ruleNumber [] i = 0
-ruleNumber (r ∷ rs) zero = r .number
-ruleNumber (r ∷ rs) (suc i) = ruleNumber rs i
-
--- the first n rules apply nowhere, and the next one does
-pub first-here : (rs : List Rule) (n : ℕ) {a b : ℕ} → Passes rs n → placeAt rs n ≡ At a b → Breaks (ruleNumber rs n) a b ≡ firstOf rs
+-- .. or it doesn't, and the first fault is one after it
+pub first-after : (rs : List Rule) (k : ℕ) → placeFor rs k ≡ Nothing → firstOf (rulesFrom k rs) ≡ firstOf (rulesAfter k rs)
 unfolding firstOf
-first-here [] n P e = absurd (differ (sym e))
-first-here (r ∷ rs) zero P e = rw e
-first-here (r ∷ rs) (suc n) P e = rw (P .none zero (omega arith)) (first-here rs n (rest P) e)
+first-after [] k e = refl
+first-after (r ∷ rs) k e = go (λ h. first-after rs k h) (eqb (r .number) k) e
+  where
+    go : (placeFor rs k ≡ Nothing → firstOf (rulesFrom k rs) ≡ firstOf (rulesAfter k rs)) → (t : Bool)
+        → cond t (placeOf (r .search)) (placeFor rs k) ≡ Nothing → firstOf (cond t (r ∷ rs) (rulesFrom k rs)) ≡ firstOf (cond t rs (rulesAfter k rs))
+    go h true e = rw e
+    go h false e = h e
 
-pub none-later : (rs : List Rule) → Passes rs (length rs) → firstOf rs ≡ None
+-- the rule of each number applies nowhere
+pub none-for : (rs : List Rule) → Passes rs → (k : ℕ) → placeFor rs k ≡ Nothing
 unfolding firstOf
-none-later [] P = refl
-none-later (r ∷ rs) P = rw (P .none zero (omega arith)) (none-later rs (rest P))
+none-for [] e k = refl
+none-for (r ∷ rs) e k = go (λ h. none-for rs h k) (placeOf (r .search)) refl e (eqb (r .number) k)
+  where
+    go : (Passes rs → placeFor rs k ≡ Nothing) → (p : Found) → placeOf (r .search) ≡ p → orElse (r .number) p (firstOf rs) ≡ None
+        → (t : Bool) → cond t (placeOf (r .search)) (placeFor rs k) ≡ Nothing
+    go h (At a b) s e t = absurd (some-fault e)
+    go h Nothing s e true = s
+    go h Nothing s e false = h e
 
 -- ---- a list that goes on
 
-place-append : (rs qs : List Rule) (i : ℕ) → i < length rs → placeAt (rs ++ qs) i ≡ placeAt rs i
-place-append [] qs i l = absurd (omega arith)
-place-append (r ∷ rs) qs zero l = refl
-place-append (r ∷ rs) qs (suc i) l = place-append rs qs i (omega arith)
+module _ (qs : List Rule) where
+  -- a fault of its beginning is a fault of the whole
+  pub first-append : (rs : List Rule) {number first second : ℕ} → firstOf rs ≡ Breaks number first second
+      → firstOf (rs ++ qs) ≡ Breaks number first second
+  unfolding firstOf
+  first-append [] e = absurd (some-fault (sym e))
+  first-append (r ∷ rs) e = go (λ h. first-append rs h) (placeOf (r .search)) e
+    where
+      go : {x : Fault} → (firstOf rs ≡ x → firstOf (rs ++ qs) ≡ x) → (p : Found) → orElse (r .number) p (firstOf rs) ≡ x
+          → orElse (r .number) p (firstOf (rs ++ qs)) ≡ x
+      go h (At a b) e = e
+      go h Nothing e = h e
 
-pub passes-append : (rs qs : List Rule) → Passes rs (length rs) → Passes (rs ++ qs) (length rs)
-passes-append rs qs P = record { none = λ i l. place-append rs qs i l ∙ P .none i l }
+  -- where its beginning has none, the fault is that of the rest
+  pub none-append : (rs : List Rule) → Passes rs → firstOf (rs ++ qs) ≡ firstOf qs
+  unfolding firstOf
+  none-append [] e = refl
+  none-append (r ∷ rs) e = go (λ h. none-append rs h) (placeOf (r .search)) e
+    where
+      go : (Passes rs → firstOf (rs ++ qs) ≡ firstOf qs) → (p : Found) → orElse (r .number) p (firstOf rs) ≡ None
+          → orElse (r .number) p (firstOf (rs ++ qs)) ≡ firstOf qs
+      go h (At a b) e = absurd (some-fault e)
+      go h Nothing e = h e
 
--- a fault of its beginning is a fault of the whole
-pub first-append : (rs qs : List Rule) {number first second : ℕ} → firstOf rs ≡ Breaks number first second → firstOf (rs ++ qs) ≡ Breaks number first second
-unfolding firstOf
-first-append [] qs e = let z : _≡_ {A = ℕ} 0 1 = cc in absurd (omega arith)
-first-append (r ∷ rs) qs e = go (λ h. first-append rs qs h) (placeOf (r .search)) e
-  where
-    go : {x : Fault} → (firstOf rs ≡ x → firstOf (rs ++ qs) ≡ x) → (p : Found) → orElse (r .number) p (firstOf rs) ≡ x
-        → orElse (r .number) p (firstOf (rs ++ qs)) ≡ x
-    go h (At a b) e = e
-    go h Nothing e = h e
+  pub passes-beginning : (rs : List Rule) → Passes (rs ++ qs) → Passes rs
+  passes-beginning rs e = go (firstOf rs) refl
+    where
+      go : (x : Fault) → firstOf rs ≡ x → x ≡ None
+      go (Breaks number a b) s = sym (first-append rs s) ∙ e
+      go None s = refl
 
 -- ---- numbers above 0
 
@@ -203,12 +214,12 @@ numbered [] = true
 numbered (r ∷ rs) = cond (ltb 0 (r .number)) (numbered rs) false
 
 -- so the number 0 says that none applies
-pub number-0 : (rs : List Rule) → numbered rs ≡ true → faultNumber (firstOf rs) ≡ 0 → firstOf rs ≡ None
+pub number-0 : (rs : List Rule) → numbered rs ≡ true → faultNumber (firstOf rs) ≡ 0 → Passes rs
 unfolding firstOf numbered
 number-0 [] n e = refl
 number-0 (r ∷ rs) n e = go (number-0 rs) (placeOf (r .search)) (ltb 0 (r .number)) refl n e
   where
-    go : (numbered rs ≡ true → faultNumber (firstOf rs) ≡ 0 → firstOf rs ≡ None) → (p : Found) (t : Bool) → ltb 0 (r .number) ≡ t
+    go : (numbered rs ≡ true → faultNumber (firstOf rs) ≡ 0 → Passes rs) → (p : Found) (t : Bool) → ltb 0 (r .number) ≡ t
         → cond t (numbered rs) false ≡ true → faultNumber (orElse (r .number) p (firstOf rs)) ≡ 0 → orElse (r .number) p (firstOf rs) ≡ None
     go h p false s n e = absurd (true≢false (sym n))
     go h (At a b) true s n e = absurd (omega (arith, ltb-true 0 (r .number) s))
@@ -229,26 +240,31 @@ split : (s t : Bool) → cond s t false ≡ true → (s ≡ true) × (t ≡ true
 split true t e = (refl, e)
 split false t e = absurd (true≢false (sym e))
 
-above-each : (n : ℕ) (rs : List Rule) → above n rs ≡ true → (i : ℕ) → i < length rs → n < ruleNumber rs i
+above-each : (n : ℕ) (rs : List Rule) → above n rs ≡ true → (k : ℕ) {c d : ℕ} → placeFor rs k ≡ At c d → n < k
 unfolding above
-above-each n [] e i l = absurd (omega arith)
-above-each n (r ∷ rs) e zero l = let (h, k) = split (ltb n (r .number)) (above n rs) e in ltb-true n (r .number) h
-above-each n (r ∷ rs) e (suc i) l = let (h, k) = split (ltb n (r .number)) (above n rs) e in above-each n rs k i (omega arith)
+above-each n [] e k p = absurd (differ (sym p))
+above-each n (r ∷ rs) e k {c} {d} p =
+    let (h, t) = split (ltb n (r .number)) (above n rs) e in
+    go (λ q. above-each n rs t k q) (ltb-true n (r .number) h) (eqb (r .number) k) refl p
+  where
+    go : (placeFor rs k ≡ At c d → n < k) → n < r .number → (t : Bool) → eqb (r .number) k ≡ t
+        → cond t (placeOf (r .search)) (placeFor rs k) ≡ At c d → n < k
+    go h l true s q = omega (arith, eqb-true (r .number) k s)
+    go h l false s q = h q
 
 -- "The lowest number that applies anywhere in the tables wins": no rule that applies has a lower number than the first fault
-pub lowest-wins : (rs : List Rule) → ascending rs ≡ true → {number a b c d : ℕ} → firstOf rs ≡ Breaks number a b
-    → (i : ℕ) → i < length rs → placeAt rs i ≡ At c d → number ≤ ruleNumber rs i
+pub lowest-wins : (rs : List Rule) → ascending rs ≡ true → {number a b : ℕ} → firstOf rs ≡ Breaks number a b
+    → (k : ℕ) {c d : ℕ} → placeFor rs k ≡ At c d → number ≤ k
 unfolding firstOf ascending
-lowest-wins [] s e i l p = absurd (omega arith)
-lowest-wins (r ∷ rs) s e i l p =
-    let (h, k) = split (above (r .number) rs) (ascending rs) s in
-    go (λ e j m q. lowest-wins rs k e j m q) (above-each (r .number) rs h) (placeOf (r .search)) refl e i l p
+lowest-wins [] s e k p = absurd (differ (sym p))
+lowest-wins (r ∷ rs) s {number} {a} {b} e k {c} {d} p =
+    let (h, t) = split (above (r .number) rs) (ascending rs) s in
+    go (λ i q. lowest-wins rs t i k q) (λ q. above-each (r .number) rs h k q) (placeOf (r .search)) refl e (eqb (r .number) k) refl p
   where
-    go : {number a b c d : ℕ} → (firstOf rs ≡ Breaks number a b → (j : ℕ) → j < length rs → placeAt rs j ≡ At c d → number ≤ ruleNumber rs j)
-        → ((j : ℕ) → j < length rs → r .number < ruleNumber rs j) → (x : Found) → placeOf (r .search) ≡ x
-        → orElse (r .number) x (firstOf rs) ≡ Breaks number a b
-        → (i : ℕ) → i < length (r ∷ rs) → placeAt (r ∷ rs) i ≡ At c d → number ≤ ruleNumber (r ∷ rs) i
-    go {number} h up (At x y) s e zero l p = let z : r .number ≡ number = cc in omega arith
-    go {number} h up (At x y) s e (suc i) l p = let z : r .number ≡ number = cc in omega (arith, up i (omega arith))
-    go h up Nothing s e zero l p = absurd (differ (sym p ∙ s))
-    go h up Nothing s e (suc i) l p = h e i (omega arith) p
+    go : (firstOf rs ≡ Breaks number a b → placeFor rs k ≡ At c d → number ≤ k) → (placeFor rs k ≡ At c d → r .number < k)
+        → (x : Found) → placeOf (r .search) ≡ x → orElse (r .number) x (firstOf rs) ≡ Breaks number a b
+        → (t : Bool) → eqb (r .number) k ≡ t → cond t (placeOf (r .search)) (placeFor rs k) ≡ At c d → number ≤ k
+    go h up (At x y) s e true i q = let z : r .number ≡ number = cc in omega (arith, eqb-true (r .number) k i)
+    go h up (At x y) s e false i q = let z : r .number ≡ number = cc in omega (arith, up q)
+    go h up Nothing s e true i q = absurd (differ (sym q ∙ s))
+    go h up Nothing s e false i q = h e q

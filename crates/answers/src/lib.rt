@@ -33,7 +33,7 @@ impl Answer {
     }
 
     // The record of a rule's number and its first place.
-    pub fn fault(number: u16, first: usize, second: usize) -> Self
+    fn fault(number: u16, first: usize, second: usize) -> Self
         ensures { λ r. ⌜ r ≡ fault number first second ⌝ }
     {
         Self {

@@ -12,16 +12,14 @@ use Rattle.stages.specs.Rules.{rulesToTurn}
 use Rattle.reflex.specs.Rules.{isReflex}
 use Rattle.outside.specs.Rules.{isOutside}
 
-abbrev pub rulesFromReflex : List ℤ → List ℕ → List ℕ → List Rule
-rulesFromReflex points corners begins =
+abbrev pub rules : List ℤ → List ℕ → List ℕ → List Rule
+rules points corners begins =
+    rulesToTurn points corners begins
     -- "some corner of the facet across this edge, other than the edge's ends, isn't strictly inside this facet's plane"
-    rule 11 (ofPlaces (facets begins) (sides begins) (isReflex points corners begins))
+    ++ rule 11 (ofPlaces (facets begins) (sides begins) (isReflex points corners begins))
     -- "a vertex that isn't a corner of the facet isn't strictly inside its plane"
     ∷ rule 12 (ofPlaces (facets begins) (λ f. vertices points) (onFacets corners begins (isOutside points)))
     ∷ []
-
-abbrev pub rules : List ℤ → List ℕ → List ℕ → List Rule
-rules points corners begins = rulesToTurn points corners begins ++ rulesFromReflex points corners begins
 
 -- "The lowest number that applies anywhere in the tables wins. Within it, the first place wins"; "accepted: none below applies: V, E, F"
 unfoldable pub judged : List ℤ → List ℕ → List ℕ → Answer

@@ -1,8 +1,9 @@
 // The judge of a solid.
 ghost use mathlib.Core.Path.{_≡_};
-ghost use Rattle.answers.specs.Order.{firstOf, Passes};
+ghost use Rattle.answers.specs.Order.{firstOf, rulesFrom, Passes};
 ghost use Rattle.index.specs.Entries.{Fresh};
 ghost use Rattle.edges.specs.Index.{Indexed};
+ghost use Rattle.stages.specs.Rules.{rulesToTurn};
 ghost use Rattle.stages.specs.Known.{HandsOut};
 ghost use Rattle.judge.specs.Judge.{rules, judged};
 ghost use Rattle.judge.specs.Indexed.{IndexedIf};
@@ -15,9 +16,9 @@ fn from_reflex(
     edges: &index::Edges,
     heads: &index::Heads,
 ) -> answers::Fault
-    requires { ⌜ Passes (rules (now points) (now corners) (now begins)) 10 ⌝ }
+    requires { ⌜ Passes (rulesToTurn (now points) (now corners) (now begins)) ⌝ }
     requires { ⌜ Indexed (now corners) (now begins) (now edges) (now heads) ⌝ }
-    ensures { λ r. ⌜ r ≡ firstOf (rules (now (points .entry)) (now (corners .entry)) (now (begins .entry))) ⌝ }
+    ensures { λ r. ⌜ r ≡ firstOf (rulesFrom 11 (rules (now (points .entry)) (now (corners .entry)) (now (begins .entry)))) ⌝ }
 {
     let reflex = reflex::reflex(points, corners, begins, edges, heads);
     if let tables::Found::At(f, p) = reflex {

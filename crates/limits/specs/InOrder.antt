@@ -1,17 +1,15 @@
 -- Numbers 1 to 3 in their order, and "tables whose sizes, ranges and corner numbers are in order": those that pass them. Assumes nothing.
-use mathlib.Core.Path.{_≡_}
+use mathlib.Core.Path.{_≡_, _∙_}
 use mathlib.Core.Bool.{false}
 use mathlib.Core.List.{List, [], _∷_}
-use Prim.Native.Nat.{ℕ, zero, suc, _<_}
-use native.Mathlib.Omega.{arith}
+use Prim.Native.Nat.{ℕ}
 use lib.IntN.{ℤ}
 use Rattle.points.specs.Points.{vertices}
 use Rattle.tables.specs.Tables.{facets, sides}
 use Rattle.tables.specs.Size.{isSize, Laid, sized}
 use Rattle.tables.specs.Facets.{onFacets}
 use Rattle.tables.specs.declared.Found.the-variants.{Nothing}
-use Rattle.answers.specs.Order.{Rule, rule, ofAll, ofEach, ofPlaces, firstOf, Passes, placeAt, applies-never, never-applies, all-pass, none-later}
-use Rattle.answers.specs.declared.Fault.the-variants.{None}
+use Rattle.answers.specs.Order.{Rule, rule, ofAll, ofEach, ofPlaces, Passes, passes-none, first-after, none-for, applies-never, never-applies}
 use Rattle.limits.specs.Rules.{outOfRange, wild, range, index}
 
 -- "points not in threes; V, F or corners outside limits; begins don't start at 0, end at the run's length, or give a facet fewer than 3 or more
@@ -29,28 +27,19 @@ pub record InOrder (points : List ℤ) (corners begins : List ℕ) : Type 0 wher
   pub numbers : index (vertices points) corners begins ≡ Nothing
 
 -- exactly such tables pass
-pub in-order : {points : List ℤ} {corners begins : List ℕ} → Passes (limitRules points corners begins) 3 → InOrder points corners begins
-in-order {points} {corners} {begins} P = record {
-  sizes = applies-never (ofAll (isSize points corners begins)) (P .none 0 (omega arith));
-  ranges = P .none 1 (omega arith);
-  numbers = P .none 2 (omega arith);
-}
+pub limits-none : (points : List ℤ) (corners begins : List ℕ) → Passes (limitRules points corners begins) → InOrder points corners begins
+limits-none points corners begins P =
+    let none = none-for (limitRules points corners begins) P in
+    record { sizes = applies-never (ofAll (isSize points corners begins)) (none 1); ranges = none 2; numbers = none 3 }
 
 module _ {points : List ℤ} {corners begins : List ℕ} (o : InOrder points corners begins) where
-  pub limits-pass : Passes (limitRules points corners begins) 3
-  limits-pass = record { none = go }
-    where
-      go : (i : ℕ) → i < 3 → placeAt (limitRules points corners begins) i ≡ Nothing
-      go zero l = never-applies (ofAll (isSize points corners begins)) (o .sizes)
-      go (suc zero) l = o .ranges
-      go (suc (suc zero)) l = o .numbers
-      go (suc (suc (suc i))) l = absurd (omega arith)
+  pub none-limits : Passes (limitRules points corners begins)
+  none-limits =
+      let rs = limitRules points corners begins in
+      first-after rs 1 (never-applies (ofAll (isSize points corners begins)) (o .sizes))
+      ∙ first-after rs 2 (o .ranges)
+      ∙ first-after rs 3 (o .numbers)
+      ∙ passes-none
 
   pub laid : Laid corners begins
   laid = sized points corners begins (o .sizes) .laid
-
-pub limits-none : (points : List ℤ) (corners begins : List ℕ) → firstOf (limitRules points corners begins) ≡ None → InOrder points corners begins
-limits-none points corners begins e = in-order (all-pass (limitRules points corners begins) e)
-
-pub none-limits : {points : List ℤ} {corners begins : List ℕ} → InOrder points corners begins → firstOf (limitRules points corners begins) ≡ None
-none-limits {points} {corners} {begins} o = none-later (limitRules points corners begins) (limits-pass o)

@@ -14,10 +14,11 @@ use Rattle.apart.specs.Apart.{isApart}
 use Rattle.flat.specs.Rules.{isBent}
 use Rattle.turn.specs.Rules.{isTurn}
 
-abbrev pub rulesFromRepeat : List ℤ → List ℕ → List ℕ → List Rule
-rulesFromRepeat points corners begins =
+abbrev pub rulesToTurn : List ℤ → List ℕ → List ℕ → List Rule
+rulesToTurn points corners begins =
+    limitRules points corners begins
     -- "a facet names a vertex again"
-    rule 4 (ofPlaces (facets begins) (sides begins) (onFacets corners begins again))
+    ++ rule 4 (ofPlaces (facets begins) (sides begins) (onFacets corners begins again))
     -- "no facet names this vertex"
     ∷ rule 5 (ofEach (vertices points) (unnamed corners))
     -- "a directed edge occurs more than once, or its reverse doesn't occur exactly once"
@@ -31,6 +32,3 @@ rulesFromRepeat points corners begins =
     -- "for edge a to b, a corner c other than a, b has n·((b-a)×(c-a)) not above 0"
     ∷ rule 10 (ofPlaces (facets begins) (sides begins) (onFacets corners begins (isTurn points)))
     ∷ []
-
-abbrev pub rulesToTurn : List ℤ → List ℕ → List ℕ → List Rule
-rulesToTurn points corners begins = limitRules points corners begins ++ rulesFromRepeat points corners begins

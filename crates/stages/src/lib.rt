@@ -1,16 +1,17 @@
 // Numbers 1 to 10 in their order: the judge's stage before REFLEX, which hands out the index of the edges.
 ghost use mathlib.Core.Path.{_≡_};
-ghost use Rattle.answers.specs.Order.{firstOf, Passes};
+ghost use Rattle.answers.specs.Order.{firstOf, rulesFrom};
 ghost use Rattle.index.specs.Entries.{Fresh};
 ghost use Rattle.edges.specs.Index.{Indexed};
 ghost use Rattle.pair.specs.Across.{Crossed};
+ghost use Rattle.flat.specs.Facet.{Measured};
 ghost use Rattle.stages.specs.Rules.{rulesToTurn};
 ghost use Rattle.stages.specs.Known.{HandsOut};
 
-// Numbers 9 and 10, where 1 to 8 passed.
+// Numbers 9 and 10, where 1 to 3 passed.
 fn from_bent(points: &[i32], corners: &[u16], begins: &[u16]) -> answers::Fault
-    requires { ⌜ Passes (rulesToTurn (now points) (now corners) (now begins)) 8 ⌝ }
-    ensures { λ r. ⌜ r ≡ firstOf (rulesToTurn (now (points .entry)) (now (corners .entry)) (now (begins .entry))) ⌝ }
+    requires { ⌜ Measured (now points) (now corners) (now begins) ⌝ }
+    ensures { λ r. ⌜ r ≡ firstOf (rulesFrom 9 (rulesToTurn (now (points .entry)) (now (corners .entry)) (now (begins .entry)))) ⌝ }
 {
     let bent = flat::bent(points, corners, begins);
     if let tables::Found::At(f, p) = bent {
@@ -23,7 +24,7 @@ fn from_bent(points: &[i32], corners: &[u16], begins: &[u16]) -> answers::Fault
     answers::Fault::None
 }
 
-// Numbers 7 to 10, where 1 to 6 passed.
+// Numbers 7 to 10, where 1 to 3 and 6 passed.
 fn from_ring(
     points: &[i32],
     corners: &[u16],
@@ -31,9 +32,9 @@ fn from_ring(
     edges: &index::Edges,
     heads: &index::Heads,
 ) -> answers::Fault
-    requires { ⌜ Passes (rulesToTurn (now points) (now corners) (now begins)) 6 ⌝ }
+    requires { ⌜ Measured (now points) (now corners) (now begins) ⌝ }
     requires { ⌜ Crossed (now corners) (now begins) (now edges) (now heads) ⌝ }
-    ensures { λ r. ⌜ r ≡ firstOf (rulesToTurn (now (points .entry)) (now (corners .entry)) (now (begins .entry))) ⌝ }
+    ensures { λ r. ⌜ r ≡ firstOf (rulesFrom 7 (rulesToTurn (now (points .entry)) (now (corners .entry)) (now (begins .entry)))) ⌝ }
 {
     let ring = ring::ring(corners, begins, edges, heads, points.len() / 3);
     if let tables::Found::At(v, z) = ring {
@@ -46,7 +47,7 @@ fn from_ring(
     from_bent(points, corners, begins)
 }
 
-// Numbers 6 to 10, where 1 to 5 passed: the index of the edges is built once and serves them all.
+// Numbers 6 to 10, where 1 to 3 passed: the index of the edges is built once and serves them all.
 fn from_pair(
     points: &[i32],
     corners: &[u16],
@@ -54,9 +55,9 @@ fn from_pair(
     edges: &mut index::Edges,
     heads: &mut index::Heads,
 ) -> answers::Fault
-    requires { ⌜ Passes (rulesToTurn (now points) (now corners) (now begins)) 5 ⌝ }
+    requires { ⌜ Measured (now points) (now corners) (now begins) ⌝ }
     requires { ⌜ Fresh (now edges) (now heads) ⌝ }
-    ensures first { λ r. ⌜ r ≡ firstOf (rulesToTurn (now (points .entry)) (now (corners .entry)) (now (begins .entry))) ⌝ }
+    ensures first { λ r. ⌜ r ≡ firstOf (rulesFrom 6 (rulesToTurn (now (points .entry)) (now (corners .entry)) (now (begins .entry)))) ⌝ }
     ensures index { λ _. ⌜ Indexed (now (corners .entry)) (now (begins .entry)) (now (edges .exit)) (now (heads .exit)) ⌝ }
 {
     edges::build(corners, begins, edges, heads);
@@ -75,9 +76,9 @@ fn from_repeat(
     edges: &mut index::Edges,
     heads: &mut index::Heads,
 ) -> answers::Fault
-    requires { ⌜ Passes (rulesToTurn (now points) (now corners) (now begins)) 3 ⌝ }
+    requires { ⌜ Measured (now points) (now corners) (now begins) ⌝ }
     requires { ⌜ Fresh (now edges) (now heads) ⌝ }
-    ensures first { λ r. ⌜ r ≡ firstOf (rulesToTurn (now (points .entry)) (now (corners .entry)) (now (begins .entry))) ⌝ }
+    ensures first { λ r. ⌜ r ≡ firstOf (rulesFrom 4 (rulesToTurn (now (points .entry)) (now (corners .entry)) (now (begins .entry)))) ⌝ }
     ensures index { λ r. ⌜ HandsOut r (now (corners .entry)) (now (begins .entry)) (now (edges .exit)) (now (heads .exit)) ⌝ }
 {
     let repeat = names::repeat(corners, begins);

@@ -5,7 +5,7 @@ use Prim.Native.Nat.{ℕ}
 use lib.Dec.{ltb, eqb}
 use lib.IntN.{ℤ}
 use lib.ListN.{length}
-use Rattle.answers.specs.Answer.{refused, ofLength, faultOr}
+use Rattle.answers.specs.Answer.{refused, ofLength, judgedOr}
 use Rattle.answers.specs.Order.{firstOf}
 use Rattle.limits.specs.InOrder.{limitRules}
 use Rattle.answers.specs.declared.Answer.{Answer}
@@ -19,7 +19,7 @@ spaced bytes buffer = cond (ltb (length buffer) (length bytes)) (refused 23) (of
 -- "The writer refuses with 1, 2 or 3 as the judge does"
 abbrev pub written : List ℤ → List ℕ → List ℕ → List ℕ → Answer
 written points corners begins buffer =
-    faultOr (firstOf (limitRules points corners begins)) (spaced (tape points corners begins) buffer)
+    judgedOr points corners begins (firstOf (limitRules points corners begins)) (spaced (tape points corners begins) buffer)
 
 -- "and later bytes keep their values"; a refusal alters nothing
 abbrev pub bufferAfter : List ℤ → List ℕ → List ℕ → List ℕ → List ℕ

@@ -12,9 +12,9 @@ use Rattle.points.specs.Points.{vertices}
 use Rattle.tables.specs.Tables.{mostVertices, mostFacets, mostCorners, facets}
 use Rattle.tables.specs.Size.{sized}
 use Rattle.limits.specs.Rules.{in-limits}
-use Rattle.answers.specs.Answer.{fault, refused, ofLength, faultNumber}
+use Rattle.answers.specs.Answer.{answerOf, refused, ofLength, faultNumber, some-fault}
 use Rattle.answers.specs.Order.{firstOf, numbered, number-0}
-use Rattle.answers.specs.declared.Fault.the-variants.{Breaks, None}
+use Rattle.answers.specs.declared.Fault.the-variants.{Breaks}
 use Rattle.answers.specs.declared.Answer.{Answer}
 use Rattle.limits.specs.InOrder.{limitRules, InOrder, none-limits, laid}
 use Rattle.whole.specs.Over.{over}
@@ -51,18 +51,14 @@ module _ {points : List ℤ} {corners begins : List ℕ} (o : InOrder points cor
 never-0 : (points : List ℤ) (corners begins : List ℕ) {number first second : ℕ} → firstOf (limitRules points corners begins) ≡ Breaks number first second
     → number ≡ 0 → ⊥
 unfolding numbered
-never-0 points corners begins {number} {first} {second} h z =
-    let e : faultNumber (firstOf (limitRules points corners begins)) ≡ 0 = ap faultNumber h ∙ z in
-    let n : Breaks number first second ≡ None = sym h ∙ number-0 (limitRules points corners begins) refl e in
-    let y : _≡_ {A = ℕ} 0 1 = cc in
-    omega arith
+never-0 points corners begins h z = some-fault (sym h ∙ number-0 (limitRules points corners begins) refl (ap faultNumber h ∙ z))
 
 module _ (points : List ℤ) (corners begins buffer : List ℕ) where
   abbrev pub Owed : Answer → List ℕ → Type 0
   Owed answer new = (answer ≡ written points corners begins buffer) × (new ≡ bufferAfter points corners begins buffer)
 
   -- number 1, 2 or 3
-  pub faulty-owed : {answer : Answer} {number first second : ℕ} → answer ≡ fault number first second
+  pub faulty-owed : {answer : Answer} {number first second : ℕ} → answer ≡ answerOf points corners begins (Breaks number first second)
       → firstOf (limitRules points corners begins) ≡ Breaks number first second → Owed answer buffer
   faulty-owed {answer} {number} e h =
       let s : answer ≡ written points corners begins buffer = rw h e in

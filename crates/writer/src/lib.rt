@@ -9,7 +9,8 @@ ghost use Rattle.writer.specs.Answer.{written, bufferAfter};
 
 // The tape of tables in order, written over the beginning of a buffer that has room.
 fn put_tape(points: &[i32], corners: &[u16], begins: &[u16], buffer: &mut [u8])
-    requires { ⌜ InOrder (now points) (now corners) (now begins) × (length (tape (now points) (now corners) (now begins)) ≤ length (now buffer)) ⌝ }
+    requires { ⌜ InOrder (now points) (now corners) (now begins) ⌝ }
+    requires { ⌜ length (tape (now points) (now corners) (now begins)) ≤ length (now buffer) ⌝ }
     ensures { λ _. ⌜ now (buffer .exit) ≡ over (tape (now (points .entry)) (now (corners .entry)) (now (begins .entry))) (now (buffer .entry)) ⌝ }
 {
     let v = points.len() / 3;
@@ -31,8 +32,14 @@ pub fn write_tape(
     ensures { λ r. ⌜ r ≡ written (now (points .entry)) (now (corners .entry)) (now (begins .entry)) (now (buffer .entry)) ⌝ }
     ensures { λ _. ⌜ now (buffer .exit) ≡ bufferAfter (now (points .entry)) (now (corners .entry)) (now (begins .entry)) (now (buffer .entry)) ⌝ }
 {
-    if let answers::Fault::Breaks(number, first, second) = limits::check(points, corners, begins) {
-        return answers::Answer::fault(number, first, second);
+    let early = limits::check(points, corners, begins);
+    if let answers::Fault::Breaks(number, first, second) = early {
+        return answers::Answer::of(
+            points,
+            corners,
+            begins,
+            answers::Fault::Breaks(number, first, second),
+        );
     }
     let long = 7 * (points.len() / 3) + (begins.len() - 1) + 2 * corners.len() + 5;
     if buffer.len() < long {

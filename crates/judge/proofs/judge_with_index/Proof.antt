@@ -2,8 +2,9 @@
 use mathlib.Core.Path.{sym, ap, _∙_}
 use native.Mathlib.Omega.{arith}
 use Rattle.answers.specs.Answer.{answerOf, faultNumber, answer-number}
-use Rattle.answers.specs.Order.{all-pass}
-use Rattle.judge.specs.Judge.{rules, judged}
+use Rattle.answers.specs.Order.{passes-beginning}
+use Rattle.judge.specs.Judge.{judged}
+use Rattle.stages.specs.Rules.{rulesToTurn}
 use Rattle.stages.specs.Known.{measured-after}
 use Rattle.judge.specs.Stages.{none-broken}
 use Rattle.judge.proofs.judge_with_index.Statement.{statement}
@@ -16,8 +17,8 @@ of-requires : tie.Need-of-requires
 of-requires c κs e =
     let a = start (c .before) .args in
     let (first, index) = c .first-fault .ensures in
-    let passes = all-pass (rules (a .points .now) (a .corners .now) (a .begins .now)) (sym first ∙ e) in
-    omega (arith, measured-after (a .points .now) (a .corners .now) (a .begins .now) passes (omega arith) .sound .laid .some)
+    let passes = passes-beginning _ (rulesToTurn (a .points .now) (a .corners .now) (a .begins .now)) (sym first ∙ e) in
+    omega (arith, measured-after (a .points .now) (a .corners .now) (a .begins .now) passes .sound .laid .some)
 
 returns : tie.Need-returns
 unfolding judged

@@ -34,7 +34,7 @@ module _ (c : tie.After-slice-known) where
   buffer = start .args .buffer .now
 
   ordered : InOrder ps cs bs
-  ordered = start .pre .0
+  ordered = let (ordered, room) = start .pre in ordered
 
   sizes : Long ps cs bs
   sizes = long ordered

@@ -2,6 +2,7 @@
 use borrow.Author.Needs.{needs}
 use mathlib.Core.Path.{sym, _∙_}
 use native.Mathlib.Omega.{arith}
+use Rattle.answers.specs.Answer.{some-fault}
 use Rattle.limits.specs.InOrder.{InOrder, limits-none}
 use Rattle.writer.specs.Owed.{Long, long, faulty-owed, short-owed, written-owed}
 use Rattle.writer.proofs.write_tape.Statement.{statement}
@@ -15,7 +16,7 @@ returns c =
     let n = c .before .before in
     let k = n .before .before in
     let a = start k .args in
-    faulty-owed (a .points .now) (a .corners .now) (a .begins .now) (a .buffer .now) (c .fault .ensures) (sym (k .check .ensures) ∙ n .number .given .1)
+    faulty-owed (a .points .now) (a .corners .now) (a .begins .now) (a .buffer .now) (c .of .ensures) (sym (k .check .ensures) ∙ n .early .given .1)
 
 -- the tables are in order
 module _ (c : tie.After-enum-told) where
@@ -55,7 +56,7 @@ write-tape-spec =
     (tie.spec
     (λ c κs. search needs)
     (λ c. search needs)
-    (λ c κs. search needs)
+    (λ c κs e. absurd (some-fault e))
     returns
     (λ c. search needs)
     (λ c. let l = sizes c in omega arith)
