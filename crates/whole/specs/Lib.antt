@@ -10,7 +10,6 @@ pub mod First
 pub mod Count
 pub mod Filled
 pub mod Stores
-pub mod Cells
 pub mod Orbit
 pub mod Rounds
 pub mod Flood

@@ -1,5 +1,4 @@
 -- `apart::apart` meets its contract: the law of searches, at the test that a facet has no mark. Assumes nothing.
-use borrow.Author.Needs.{needs}
 use borrow.Author.Tests.{eq-eqb, ne-eqb}
 use mathlib.Core.Path.{refl, _∙_}
 use Prim.Native.Nat.{_-_, _≤_}
@@ -13,28 +12,28 @@ use Rattle.apart.proofs.apart.Statement.{statement}
 use Rattle.apart.proofs.apart.Tie as tie
 
 abbrev Inv-loop : tie.InvT-loop
-Inv-loop corners begins edges heads queue n f₀ f =
-    (f ≤ n) × None (isApart corners begins) f × Crossed corners begins edges heads × ReachMarks corners begins queue
+Inv-loop corners begins edges heads marks n f₀ f =
+    (f ≤ n) × None (isApart corners begins) f × Crossed corners begins edges heads × ReachMarks corners begins marks
 
 abbrev μ-loop : tie.MeasureT-loop
-μ-loop corners begins edges heads queue n f₀ f = n - f
+μ-loop corners begins edges heads marks n f₀ f = n - f
 
 loop-holds : tie.Need-loop-holds Inv-loop μ-loop
-loop-holds c = (omega arith, none-0 _, c .before .before .before .before .pre, c .reach .ensures)
+loop-holds c = (omega arith, none-0 _, c .before .before .before .before .before .pre, c .reach .ensures)
 
-read : tie.Need-index-1-if1 Inv-loop μ-loop
+read : tie.Need-array-read-if1 Inv-loop μ-loop
 read c =
     let (upto, none, crossed, marks) = c .before .loop .inv in
     omega (arith, crossed .indexed .tables .laid .most)
 
 returns : tie.Need-returns Inv-loop μ-loop
 returns c =
-    let (upto, none, crossed, marks) = c .before .before .before .loop .inv in
+    let (upto, none, crossed, marks) = c .before .before .loop .inv in
     hit (λ f. At f 0) Nothing none (apart-test crossed marks (omega arith) ∙ rw (eq-eqb _ _ (c .if1 .taken))) (omega arith)
 
 loop-again : tie.Need-loop-again Inv-loop μ-loop
 loop-again c =
-    let (upto, none, crossed, marks) = c .before .before .before .loop .inv in
+    let (upto, none, crossed, marks) = c .before .before .loop .inv in
     (omega arith, none-more none (apart-test crossed marks (omega arith) ∙ rw (ne-eqb _ _ (c .if1 .left))), crossed, marks)
 
 pub apart-spec : {M : Type 1} → statement M
@@ -43,12 +42,10 @@ apart-spec =
     (tie.spec
     Inv-loop
     μ-loop
-    (λ c κs. (c .before .before .before .pre, refl))
-    (λ c. omega (arith, c .before .before .before .before .pre .indexed .tables .laid .some))
+    (λ c κs. (c .before .before .before .before .pre, record { unmarked = refl; empty = refl }))
+    (λ c. omega (arith, c .before .before .before .before .before .pre .indexed .tables .laid .some))
     loop-holds
-    (λ c. omega (arith, read c))
     read
-    (λ c. search needs)
     returns
     (λ c. omega arith)
     (λ c. omega arith)

@@ -9,30 +9,33 @@ use Rattle.apart.proofs.reach.Statement.{statement}
 use Rattle.apart.proofs.reach.Tie as tie
 
 abbrev Inv-loop : tie.InvT-loop
-Inv-loop corners begins edges heads queue₀ tail₀ head₀ queue tail head = Reaching corners begins edges heads queue head tail
+Inv-loop corners begins edges heads marks₀ queue₀ tail₀ head₀ marks queue tail head = Reaching corners begins edges heads marks queue head tail
 
 abbrev μ-loop : tie.MeasureT-loop
-μ-loop corners begins edges heads queue₀ tail₀ head₀ queue tail head = facets begins - head
+μ-loop corners begins edges heads marks₀ queue₀ tail₀ head₀ marks queue tail head = facets begins - head
+
+push-requires : tie.Need-push-requires Inv-loop μ-loop
+push-requires c κs = let (crossed, fresh) = c .before .before .before .before .pre in reaching-pushing crossed fresh
 
 loop-holds : tie.Need-loop-holds Inv-loop μ-loop
-loop-holds c = let (crossed, blank) = c .before .before .before .before .pre in reaching-0 crossed blank (c .push .ensures)
+loop-holds c = let (crossed, fresh) = c .before .before .before .before .before .pre in reaching-0 crossed fresh (c .push .ensures)
 
-read : tie.Need-index-1-wide Inv-loop μ-loop
+read : tie.Need-element-copy-out-wide Inv-loop μ-loop
 read c = reaching-small (c .before .loop .inv) (omega arith)
 
 spread-requires : tie.Need-spread-requires Inv-loop μ-loop
 spread-requires c κs =
-    let w = c .before in
+    let w = c .before .before in
     reaching-visit (w .before .before .before .loop .inv) (omega arith) (w .wide .ensures .is)
 
 loop-less : tie.Need-loop-less Inv-loop μ-loop
 loop-less c =
-    let w = c .before .before in
+    let w = c .before .before .before in
     reaching-less (w .before .before .before .loop .inv) (omega arith)
 
 loop-again : tie.Need-loop-again Inv-loop μ-loop
 loop-again c =
-    let w = c .before .before in
+    let w = c .before .before .before in
     reaching-more (w .before .before .before .loop .inv) (omega arith) (w .wide .ensures .is) (c .spread .ensures)
 
 pub reach-spec : {M : Type 1} → statement M
@@ -41,11 +44,10 @@ reach-spec =
     (tie.spec
     Inv-loop
     μ-loop
-    (λ c κs. let (crossed, blank) = c .before .before .before .pre in reaching-pushing crossed blank)
+    push-requires
     loop-holds
     (λ c. omega (arith, read c))
     read
-    (λ c. search needs)
     (λ c κs. search needs)
     spread-requires
     (λ c. search needs)

@@ -7,33 +7,31 @@ use Rattle.apart.proofs.spread.Statement.{statement}
 use Rattle.apart.proofs.spread.Tie as tie
 
 abbrev Inv-loop : tie.InvT-loop
-Inv-loop corners begins edges queue₀ tail f n₀ p₀ end queue n p = Visiting corners begins edges queue₀ tail f end queue n p
+Inv-loop begins edges marks₀ queue₀ tail f n₀ p₀ end marks queue n p = Visiting begins edges marks₀ queue₀ tail f end marks queue n p
 
 abbrev μ-loop : tie.MeasureT-loop
-μ-loop corners begins edges queue₀ tail f n₀ p₀ end queue n p = end - p
+μ-loop begins edges marks₀ queue₀ tail f n₀ p₀ end marks queue n p = end - p
 
 end-read : tie.Need-shared-slice-read-wide-2 Inv-loop μ-loop
-end-read c =
-    let w = c .before in
-    omega (arith, w .before .before .before .before .pre .facet)
+end-read c = omega (arith, c .before .before .before .before .pre .facet)
 
 loop-holds : tie.Need-loop-holds Inv-loop μ-loop
 loop-holds c =
     let w = c .before .before in
-    visiting-0 (w .before .before .before .before .pre) (w .wide .ensures .is) (c .wide2 .ensures .is)
+    visiting-0 (w .before .before .before .pre) (w .wide .ensures .is) (c .wide2 .ensures .is)
 
 home-at-requires : tie.Need-home-at-requires Inv-loop μ-loop
 home-at-requires c κs = visit-across (c .before .before .loop .inv) (omega arith) (c .across-at .ensures)
 
 push-requires : tie.Need-push-requires Inv-loop μ-loop
 push-requires c κs =
-    let h = c .before in
+    let h = c .before .before in
     let a = h .before in
     visit-pushing (a .before .before .loop .inv) (omega arith) (a .across-at .ensures) (h .home-at .ensures)
 
 loop-again : tie.Need-loop-again Inv-loop μ-loop
 loop-again c =
-    let h = c .before .before in
+    let h = c .before .before .before in
     let a = h .before in
     visiting-more (a .before .before .loop .inv) (omega arith) (a .across-at .ensures) (h .home-at .ensures) (c .push .ensures)
 
@@ -44,7 +42,7 @@ spread-spec =
     Inv-loop
     μ-loop
     (λ c. search needs)
-    (λ c. omega (arith, c .before .before .before .pre .facet))
+    (λ c. omega (arith, c .before .before .pre .facet))
     (λ c κs. search needs)
     (λ c. search needs)
     (λ c. search needs)
