@@ -12,7 +12,7 @@ use Rattle.bridge.specs.Surface.{tablesOf}
 use Rattle.bridge.specs.Closed.{is-closed}
 use Rattle.shape.specs.Flat.{flat}
 use Rattle.shape.specs.Folds.{no-reflex}
-use Rattle.outside.specs.Passed.{Passed}
+use Rattle.shape.specs.Passed.{Passed}
 use Rattle.solid.specs.Tables.{Closed}
 use Rattle.stages.specs.Known.{measured-after, paired-after}
 use Rattle.judge.specs.Judge.{rules}

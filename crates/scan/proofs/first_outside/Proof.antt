@@ -1,12 +1,12 @@
--- `outside::first_outside` meets its contract: the law of searches, over the vertices. Assumes nothing.
+-- `scan::first_outside` meets its contract: the law of searches, over the vertices. Assumes nothing.
 use mathlib.Core.Path.{sym, _∙_}
 use native.Mathlib.Omega.{arith}
 use Prim.Native.Nat.{_-_, _≤_}
 use Rattle.whole.specs.First.{None, none-0, none-more, found, none}
 use Rattle.flat.specs.Facet.{Facet}
-use Rattle.outside.specs.Rules.{isOutside}
-use Rattle.outside.proofs.first_outside.Statement.{statement}
-use Rattle.outside.proofs.first_outside.Tie as tie
+use Rattle.scan.specs.Rules.{isOutside}
+use Rattle.scan.proofs.first_outside.Statement.{statement}
+use Rattle.scan.proofs.first_outside.Tie as tie
 
 abbrev Inv-loop : tie.InvT-loop
 Inv-loop points part n v₀ v = (v ≤ n) × None (isOutside points part) v × Facet points part

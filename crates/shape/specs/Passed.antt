@@ -1,12 +1,12 @@
 -- The short way of OUTSIDE: where 1 to 11 pass, it is enough to test the neighbours of each facet's corners. Assumes nothing.
 use mathlib.Core.Path.{_≡_, refl, sym, _∙_}
-use mathlib.Core.Bool.{Bool, true, false, not, true≢false}
+use mathlib.Core.Bool.{Bool, true, false, true≢false}
 use mathlib.Core.List.{List}
 use Prim.Native.Nat.{ℕ, _+_, _-_, _<_}
 use native.Mathlib.Omega.{arith}
 use lib.IntN.{ℤ}
 use lib.ListN.{length, getD}
-use borrow.Author.Tests.{ltb-true, ltb-false, not-true}
+use borrow.Author.Tests.{ltb-true, ltb-false}
 use Rattle.whole.specs.First.{firstBelow, any-false, first-holds}
 use Rattle.whole.specs.Count.{lastBelow, last as lastPlace, both}
 use Rattle.points.specs.Range.{limit}
@@ -16,14 +16,13 @@ use Rattle.tables.specs.Places.{part-length, next-below}
 use Rattle.tables.specs.Found.{first-none}
 use Rattle.tables.specs.declared.Found.the-variants.{Nothing}
 use Rattle.edges.specs.Chains.{leaves}
-use Rattle.edges.specs.Index.{Indexed}
 use Rattle.flat.specs.Facet.{Measured}
 use Rattle.bridge.specs.Surface.{tablesOf, sized-tables, place-names, place-runs}
 use Rattle.solid.specs.Tables.{Tables, Ranged, Closed, Flat, Reflex, Neighbours}
 use Rattle.solid.specs.Theorems.{local-global}
-use Rattle.outside.specs.Rules.{isOutside, outside}
-use Rattle.outside.specs.Near.{leadsOut, isNear, nearPart, nearFacet, near, out-entry}
-use Rattle.outside.specs.Meaning.{inside-of, inside-outside}
+use Rattle.scan.specs.Rules.{isOutside, outside}
+use Rattle.near.specs.Near.{leadsOut, isNear, nearPart, nearFacet, near, out-entry}
+use Rattle.shape.specs.Outside.{inside-of, inside-outside}
 
 -- tables that pass 1 to 11
 pub record Passed (points : List ℤ) (corners begins : List ℕ) : Type 0 where
@@ -31,11 +30,6 @@ pub record Passed (points : List ℤ) (corners begins : List ℕ) : Type 0 where
   pub closed : Closed (tablesOf points corners begins)
   pub flat : Flat (tablesOf points corners begins)
   pub reflex : Reflex (tablesOf points corners begins)
-
--- .. and their index
-pub record Scannable (points : List ℤ) (corners begins : List ℕ) (edges : List (List ℕ)) (heads : List ℕ) : Type 0 where
-  pub passed : Passed points corners begins
-  pub indexed : Indexed corners begins edges heads
 
 module _ {points : List ℤ} {corners begins : List ℕ} (M : Measured points corners begins) where
   abbrev t : Tables
@@ -80,11 +74,6 @@ near-enough {points} p e =
     let m = p .measured in
     inside-outside points (m .sound .laid)
     (local-global (sized-tables points (m .sound)) (ranged m) (p .closed) (p .flat) (p .reflex) (neighbours m e))
-
--- as the code says it: t is what the local test answers
-pub passed-over : {points : List ℤ} {corners begins : List ℕ} {edges : List (List ℕ)} {heads : List ℕ} {t : Bool} → Scannable points corners begins edges heads
-    → t ≡ near points corners begins → not t ≡ true → Nothing ≡ outside points corners begins
-passed-over R is e = sym (near-enough (R .passed) (sym is ∙ not-true _ e))
 
 -- and where the local test finds a vertex, OUTSIDE applies: no scan is made in vain
 pub near-needed : {points : List ℤ} {corners begins : List ℕ} → Measured points corners begins → near points corners begins ≡ true

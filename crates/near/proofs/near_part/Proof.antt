@@ -1,12 +1,12 @@
--- `outside::near_part` meets its contract: the law of searches over the corners of a facet, and along the chain of each. Assumes nothing.
+-- `near::near_part` meets its contract: the law of searches over the corners of a facet, and along the chain of each. Assumes nothing.
 use borrow.Author.Needs.{needs}
 use native.Mathlib.Omega.{arith}
 use Prim.Native.Nat.{_-_}
 use lib.ListN.{length}
-use Rattle.outside.specs.Near.{Nearing, nearing-0, nearing-more, nearing-none, own-facet, corner-small}
-use Rattle.outside.specs.Near.{Chaining, chaining-0, chaining-hit, chaining-more, end-named, link-small, link-less}
-use Rattle.outside.proofs.near_part.Statement.{statement}
-use Rattle.outside.proofs.near_part.Tie as tie
+use Rattle.near.specs.Near.{Nearing, nearing-0, nearing-more, nearing-none, own-facet, corner-small}
+use Rattle.near.specs.Near.{Chaining, chaining-0, chaining-hit, chaining-more, end-named, link-small, link-less}
+use Rattle.near.proofs.near_part.Statement.{statement}
+use Rattle.near.proofs.near_part.Tie as tie
 
 abbrev Inv-loop2 : tie.InvT-loop2
 Inv-loop2 points corners begins edges heads f part p q₀ q = Chaining points corners begins edges heads f part p q

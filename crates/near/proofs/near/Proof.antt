@@ -1,9 +1,9 @@
--- `outside::near` meets its contract: the law of searches, over the facets. Assumes nothing.
+-- `near::near` meets its contract: the law of searches, over the facets. Assumes nothing.
 use native.Mathlib.Omega.{arith}
 use Prim.Native.Nat.{_-_}
-use Rattle.outside.specs.Near.{Looking, looking-0, looking-hit, looking-more, looking-none}
-use Rattle.outside.proofs.near.Statement.{statement}
-use Rattle.outside.proofs.near.Tie as tie
+use Rattle.near.specs.Near.{Looking, looking-0, looking-hit, looking-more, looking-none}
+use Rattle.near.proofs.near.Statement.{statement}
+use Rattle.near.proofs.near.Tie as tie
 
 abbrev Inv-loop : tie.InvT-loop
 Inv-loop points corners begins edges heads m f₀ f = Looking points corners begins edges heads f

@@ -1,8 +1,8 @@
--- `outside::is_outside` meets its contract. Assumes nothing.
+-- `scan::is_outside` meets its contract. Assumes nothing.
 use borrow.Author.Needs.{needs}
-use Rattle.outside.specs.Rules.{isOutside}
-use Rattle.outside.proofs.is_outside.Statement.{statement}
-use Rattle.outside.proofs.is_outside.Tie as tie
+use Rattle.scan.specs.Rules.{isOutside}
+use Rattle.scan.proofs.is_outside.Statement.{statement}
+use Rattle.scan.proofs.is_outside.Tie as tie
 
 returns : tie.Need-returns
 unfolding isOutside

@@ -18,7 +18,7 @@ use Rattle.edges.specs.Chains.{leaves, Within}
 use Rattle.edges.specs.Index.{Indexed, leaves-each, end-is}
 use Rattle.edges.specs.Along.{Seeking, seeking-0, seeking-more, seeking-here, seeking-none, place-below, place-small, place-leaves, link-falls}
 use Rattle.flat.specs.Facet.{Facet, Measured, facet}
-use Rattle.outside.specs.Rules.{isOutside}
+use Rattle.scan.specs.Rules.{isOutside}
 
 -- the edge at place q leaves v, and OUTSIDE applies to its end
 unfoldable pub leadsOut : List ℤ → List ℕ → List ℕ → List ℕ → ℕ → ℕ → Bool

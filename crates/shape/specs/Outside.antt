@@ -19,7 +19,7 @@ use Rattle.tables.specs.Found.{first-none, no-place-is}
 use Rattle.tables.specs.declared.Found.the-variants.{Nothing}
 use Rattle.bridge.specs.Surface.{tablesOf}
 use Rattle.solid.specs.Tables.{Tables, Corner, Outside, Inside}
-use Rattle.outside.specs.Rules.{isOutside, outside}
+use Rattle.scan.specs.Rules.{isOutside, outside}
 
 -- a vertex that is no corner and passes
 seen : (x y : Bool) → cond x false (not y) ≡ false → y ≡ false → x ≡ true

@@ -1,13 +1,13 @@
--- `outside::scan` meets its contract: the law of searches, facet by facet. Assumes nothing.
+-- `scan::scan` meets its contract: the law of searches, facet by facet. Assumes nothing.
 use native.Mathlib.Omega.{arith}
 use Prim.Native.Nat.{_-_}
 use Rattle.points.specs.Points.{vertices}
 use Rattle.tables.specs.Tables.{facets, facetOf}
 use Rattle.tables.specs.Found.{Free, free-0, free-hit, free-more, free-all}
 use Rattle.flat.specs.Facet.{Measured, facet}
-use Rattle.outside.specs.Rules.{isOutside}
-use Rattle.outside.proofs.scan.Statement.{statement}
-use Rattle.outside.proofs.scan.Tie as tie
+use Rattle.scan.specs.Rules.{isOutside}
+use Rattle.scan.proofs.scan.Statement.{statement}
+use Rattle.scan.proofs.scan.Tie as tie
 
 abbrev Inv-loop : tie.InvT-loop
 Inv-loop points corners begins n m f₀ f =
