@@ -1,9 +1,9 @@
--- `sides::difference` meets its contract. Assumes nothing.
+-- `points::difference` meets its contract. Assumes nothing.
 use borrow.Author.Needs.{needs}
 use Rattle.points.specs.Range.{difference-fits, difference-is}
-use Rattle.sides.specs.Sides.{differenceOf}
-use Rattle.sides.proofs.difference.Statement.{statement}
-use Rattle.sides.proofs.difference.Tie as tie
+use Rattle.points.specs.Points.{differenceOf}
+use Rattle.points.proofs.difference.Statement.{statement}
+use Rattle.points.proofs.difference.Tie as tie
 
 sub-result : tie.Need-sub-result
 sub-result c = difference-fits (c .before .wide-coord .ensures) (c .wide-coord2 .ensures)

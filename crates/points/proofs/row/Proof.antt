@@ -1,10 +1,10 @@
--- `sides::row` meets its contract. Each difference is small, so it is held as it is. Assumes nothing.
+-- `points::row` meets its contract. Each difference is small, so it is held as it is. Assumes nothing.
 use borrow.Author.Needs.{needs}
 use mir.Syntax.{w64}
 use Rattle.whole.specs.Machine.{exact-read}
 use Rattle.space.specs.Rows.{exact-row}
-use Rattle.sides.proofs.row.Statement.{statement}
-use Rattle.sides.proofs.row.Tie as tie
+use Rattle.points.proofs.row.Statement.{statement}
+use Rattle.points.proofs.row.Tie as tie
 
 returns : tie.Need-returns
 returns c =
