@@ -17,7 +17,7 @@ use Rattle.bridge.specs.Closed.{shut}
 use Rattle.flat.specs.Facet.{Measured}
 use Rattle.shape.specs.Flat.{flat-bent, flat-turn}
 use Rattle.shape.specs.Folds.{reflex-none}
-use Rattle.outside.specs.Meaning.{inside, inside-outside}
+use Rattle.shape.specs.Outside.{inside, inside-outside}
 use Rattle.solid.specs.Tables.{Convex, Corner, OnPlane, volume}
 use Rattle.solid.specs.Theorems as Solid
 use Rattle.stages.specs.Rules.{rulesToTurn}

@@ -20,7 +20,7 @@ use Rattle.apart.specs.Apart.{flooded}
 use Rattle.flat.specs.Rules.{isBent}
 use Rattle.turn.specs.Rules.{isTurn}
 use Rattle.reflex.specs.Rules.{isReflex}
-use Rattle.outside.specs.Rules.{isOutside}
+use Rattle.scan.specs.Rules.{isOutside}
 use Rattle.judge.specs.Judge.{judged}
 use Rattle.direction.specs.Direction.{direction, isSteep}
 use Rattle.climb.specs.Step.{step}

@@ -1,13 +1,15 @@
 -- What the tests of one facet ask of its part of the run, and what they have where 1 to 3 pass. Assumes nothing.
 use mathlib.Core.List.{List}
-use Prim.Native.Nat.{ℕ, _≤_, _<_}
+use Prim.Native.Nat.{ℕ, _+_, _≤_, _<_}
 use native.Mathlib.Omega.{arith}
+use native.Mathlib.Decide.{ℕ-discrete}
 use mathlib.Core.Bool.{Bool}
 use lib.IntN.{ℤ}
 use lib.ListN.{length, getD}
+use borrow.Author.Tests.{eq-eqb, ne-eqb}
 use Rattle.points.specs.Points.{vertices, Ranged, Vertex}
 use Rattle.sides.specs.Sides.{Three}
-use Rattle.tables.specs.Tables.{facets, sides, facetOf}
+use Rattle.tables.specs.Tables.{facets, sides, facetOf, nextPosition}
 use Rattle.tables.specs.Facets.{Clear}
 use Rattle.tables.specs.Places.{Sound, part-length, sides-some, sides-few, corner-at, place-below}
 
@@ -21,6 +23,16 @@ pub record Facet (points : List ℤ) (part : List ℕ) : Type 0 where
 pub first-three : {points : List ℤ} {part : List ℕ} → Facet points part → Three points (getD part 0 0) (getD part 1 0) (getD part 2 0)
 first-three f =
     record { ranged = f .ranged; first = f .named 0 (omega arith); second = f .named 1 (omega arith); third = f .named 2 (omega arith) }
+
+-- the corner after position p, where the edge at p ends
+abbrev pub cornerAfter : List ℕ → ℕ → ℕ
+cornerAfter part p = getD part (nextPosition (length part) p) 0
+
+pub after-named : {points : List ℤ} {part : List ℕ} {p : ℕ} → Facet points part → p < length part → Vertex points (cornerAfter part p)
+after-named {points} {part} {p} f l = elim (ℕ-discrete (p + 1) (length part)) [
+  | yes s ↦ rw (eq-eqb _ _ s) (f .named 0 (omega arith))
+  | no s ↦ rw (ne-eqb _ _ s) (f .named (p + 1) (omega arith))
+]
 
 -- tables that pass 1 to 3
 pub record Measured (points : List ℤ) (corners begins : List ℕ) : Type 0 where

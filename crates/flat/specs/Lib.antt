@@ -1,3 +1,3 @@
--- A facet's plane, and number 9, BENT.
+-- A facet's plane and edges, and number 9, BENT.
 pub mod Facet
 pub mod Rules

@@ -1,10 +1,10 @@
-// A facet's plane, and number 9, BENT.
+// A facet's plane and edges, and number 9, BENT.
 ghost use mathlib.Core.Path.{_≡_};
 ghost use Prim.Native.Nat.{_<_};
 ghost use lib.ListN.{length};
 ghost use Rattle.whole.specs.First.{firstBelow};
 ghost use Rattle.points.specs.Points.{Vertex};
-ghost use Rattle.flat.specs.Facet.{Facet, Measured};
+ghost use Rattle.flat.specs.Facet.{Facet, Measured, cornerAfter};
 ghost use Rattle.flat.specs.Rules.{sideAt, isBent, bent};
 
 // The side of a facet's plane that vertex v is on.
@@ -13,6 +13,18 @@ pub fn side_at(points: &[i32], part: &[u16], v: u16) -> sides::Side
     ensures { λ r. ⌜ r ≡ sideAt (now (points .entry)) (now (part .entry)) v ⌝ }
 {
     sides::side_of(points, part[0], part[1], part[2], v)
+}
+
+// Where the edge at position p of a facet ends: the last one wraps.
+pub fn corner_after(part: &[u16], p: usize) -> u16
+    requires { ⌜ p < length (now part) ⌝ }
+    ensures { λ r. ⌜ r ≡ cornerAfter (now (part .entry)) p ⌝ }
+{
+    let on = p + 1;
+    if on == part.len() {
+        return part[0];
+    }
+    part[on]
 }
 
 // The first position of a facet at which BENT applies, or its number of sides.

@@ -10,7 +10,7 @@ use Rattle.answers.specs.Order.{Rule, rule, ofPlaces, firstOf}
 use Rattle.answers.specs.declared.Answer.{Answer}
 use Rattle.stages.specs.Rules.{rulesToTurn}
 use Rattle.reflex.specs.Rules.{isReflex}
-use Rattle.outside.specs.Rules.{isOutside}
+use Rattle.scan.specs.Rules.{isOutside}
 
 abbrev pub rules : List ℤ → List ℕ → List ℕ → List Rule
 rules points corners begins =

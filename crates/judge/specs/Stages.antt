@@ -12,7 +12,7 @@ use Rattle.bridge.specs.Closed.{is-closed}
 use Rattle.reflex.specs.Rules.{reflex}
 use Rattle.shape.specs.Flat.{flat}
 use Rattle.shape.specs.Folds.{no-reflex}
-use Rattle.outside.specs.Passed.{Passed}
+use Rattle.shape.specs.Passed.{Passed}
 use Rattle.solid.specs.Tables.{Closed, Flat}
 use Rattle.stages.specs.Rules.{rulesToTurn}
 use Rattle.stages.specs.Known.{measured-after, paired-after}

@@ -1,4 +1,4 @@
-// The lent points: every coordinate is read here, with its limits.
+// The lent points: every coordinate is read here, with its limits, and the row from one point to another.
 ghost use mathlib.Core.Path.{_≡_};
 ghost use mathlib.Core.Bool.{_||_};
 ghost use Prim.Native.Nat.{_<_};
@@ -6,8 +6,9 @@ ghost use lib.IntN.{pos};
 ghost use lib.Signed.{ltZ};
 ghost use lib.ListN.{length, getD};
 ghost use Rattle.whole.specs.Bounds.{Exact};
+ghost use Rattle.space.specs.Rows.{ExactRow, longest};
 ghost use Rattle.points.specs.Range.{limit, isOut, InRange};
-ghost use Rattle.points.specs.Points.{Vertex, Ranged, coordOf};
+ghost use Rattle.points.specs.Points.{Vertex, Ranged, coordOf, differenceOf, rowOf};
 
 // Whether a number is outside least to most.
 pub fn exceeds(x: i32, least: i32, most: i32) -> bool
@@ -55,4 +56,24 @@ pub fn wide_coord(points: &[i32], v: usize, k: usize) -> i64
     ensures { λ r. ⌜ Exact limit (coordOf (now (points .entry)) v k) r ⌝ }
 {
     widen(coord(points, v, k))
+}
+
+// Coordinate k of the step from a to b.
+fn difference(points: &[i32], a: u16, b: u16, k: usize) -> i64
+    requires { ⌜ Ranged (now points) × Vertex (now points) a × Vertex (now points) b × (k < 3) ⌝ }
+    ensures { λ r. ⌜ Exact longest (differenceOf (now (points .entry)) a b k) r ⌝ }
+{
+    wide_coord(points, b as usize, k) - wide_coord(points, a as usize, k)
+}
+
+// The step from a to b.
+pub fn row(points: &[i32], a: u16, b: u16) -> [i64; 3]
+    requires { ⌜ Ranged (now points) × Vertex (now points) a × Vertex (now points) b ⌝ }
+    ensures { λ r. ⌜ ExactRow longest (rowOf (now (points .entry)) a b) r ⌝ }
+{
+    [
+        difference(points, a, b, 0),
+        difference(points, a, b, 1),
+        difference(points, a, b, 2),
+    ]
 }

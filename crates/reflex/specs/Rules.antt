@@ -7,10 +7,11 @@ use lib.IntN.{ℤ}
 use lib.ListN.{length, getD}
 use Rattle.whole.specs.First.{anyBelow}
 use Rattle.sides.specs.Sides.{isInside}
-use Rattle.tables.specs.Tables.{facets, begin, sides, facetOf, nextPosition}
+use Rattle.tables.specs.Tables.{facets, begin, sides, facetOf}
 use Rattle.tables.specs.Found.{firstPlace}
 use Rattle.tables.specs.declared.Found.{Found}
 use Rattle.edges.specs.Edge.{facetAcross}
+use Rattle.flat.specs.Facet.{cornerAfter}
 use Rattle.flat.specs.Rules.{sideAt}
 
 -- corner c, "other than the edge's ends, isn't strictly inside this facet's plane"
@@ -23,7 +24,7 @@ someNotInside points part other a b = anyBelow (λ r. isNotInside points part a 
 
 -- the edge at position p of a part
 abbrev pub reflexAt : List ℤ → List ℕ → List ℕ → ℕ → Bool
-reflexAt points part other p = someNotInside points part other (getD part p 0) (getD part (nextPosition (length part) p) 0)
+reflexAt points part other p = someNotInside points part other (getD part p 0) (cornerAfter part p)
 
 unfoldable pub isReflex : List ℤ → List ℕ → List ℕ → ℕ → ℕ → Bool
 isReflex points corners begins f p =

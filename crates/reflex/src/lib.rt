@@ -45,8 +45,7 @@ fn is_reflex(points: &[i32], part: &[u16], other: &[u16], p: usize) -> bool
     requires { ⌜ Facet (now points) (now part) × Facet (now points) (now other) × (p < length (now part)) ⌝ }
     ensures { λ r. ⌜ r ≡ reflexAt (now (points .entry)) (now (part .entry)) (now (other .entry)) p ⌝ }
 {
-    let on = tables::next_position(part.len(), p);
-    some_not_inside(points, part, other, part[p], part[on])
+    some_not_inside(points, part, other, part[p], flat::corner_after(part, p))
 }
 
 // The part of the run that has the corners of the facet across the edge at place q.

@@ -1,1 +1,1 @@
-// Numbers 9 to 11 in plain quantifiers, both ways: laws alone, in specs/.
+// Numbers 9 to 12 in plain quantifiers, both ways: laws alone, in specs/.

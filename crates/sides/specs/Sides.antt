@@ -2,14 +2,14 @@
 use Prim.Native.Nat.{ℕ}
 use mathlib.Core.Bool.{Bool, cond, true, false, true≢false}
 use mathlib.Core.List.{List}
-use lib.IntN.{ℤ, _-ℤ_, pos}
+use lib.IntN.{ℤ, pos}
 use Rattle.whole.specs.Formula.{ints}
-use Rattle.space.specs.Vec.{Vec, vec, cross}
+use Rattle.space.specs.Vec.{Vec, cross}
 use Rattle.space.specs.Vectors.{_-_, det}
 use Rattle.space.specs.Rows.{vecOf, listOf}
 use Rattle.sides.specs.declared.Side.{Side}
 use Rattle.sides.specs.declared.Side.the-variants.{Inside, On, Outside}
-use Rattle.points.specs.Points.{Vertex, Ranged, coordOf, point}
+use Rattle.points.specs.Points.{Vertex, Ranged, point}
 use Rattle.space.specs.Nought.{isBelow, isAbove, isNought, zero-is}
 use mathlib.Core.Path.{_≡_, refl, sym}
 use lib.Signed.{_<ℤ_}
@@ -21,14 +21,6 @@ pub record Three (points : List ℤ) (a b c : ℕ) : Type 0 where
   pub first : Vertex points a
   pub second : Vertex points b
   pub third : Vertex points c
-
--- coordinate k of b - a
-unfoldable pub differenceOf : List ℤ → ℕ → ℕ → ℕ → ℤ
-differenceOf points a b k = coordOf points b k -ℤ coordOf points a k
-
--- b - a
-abbrev pub rowOf : List ℤ → ℕ → ℕ → List ℤ
-rowOf points a b = listOf (vec (differenceOf points a b 0) (differenceOf points a b 1) (differenceOf points a b 2))
 
 -- "The six-fold volume of points a, b, c, d is the determinant of three rows: b-a, c-a, d-a"
 abbrev pub volume : List ℤ → ℕ → ℕ → ℕ → ℕ → ℤ

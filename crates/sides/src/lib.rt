@@ -1,30 +1,8 @@
 // Which side of a plane a point is on, and which side of an edge, by the determinant of three rows of three.
 ghost use mathlib.Core.Path.{_≡_};
-ghost use Prim.Native.Nat.{_<_};
-ghost use Rattle.whole.specs.Bounds.{Exact};
-ghost use Rattle.space.specs.Rows.{BoundedRow, ExactRow, longest, widest};
-ghost use Rattle.points.specs.Points.{Vertex, Ranged};
-ghost use Rattle.sides.specs.Sides.{Three, differenceOf, rowOf, normalOf, sign, sideOf, inLine, isLeft, isInside, isOn};
-
-// Coordinate k of the step from a to b.
-fn difference(points: &[i32], a: u16, b: u16, k: usize) -> i64
-    requires { ⌜ Ranged (now points) × Vertex (now points) a × Vertex (now points) b × (k < 3) ⌝ }
-    ensures { λ r. ⌜ Exact longest (differenceOf (now (points .entry)) a b k) r ⌝ }
-{
-    points::wide_coord(points, b as usize, k) - points::wide_coord(points, a as usize, k)
-}
-
-// The step from a to b.
-fn row(points: &[i32], a: u16, b: u16) -> [i64; 3]
-    requires { ⌜ Ranged (now points) × Vertex (now points) a × Vertex (now points) b ⌝ }
-    ensures { λ r. ⌜ ExactRow longest (rowOf (now (points .entry)) a b) r ⌝ }
-{
-    [
-        difference(points, a, b, 0),
-        difference(points, a, b, 1),
-        difference(points, a, b, 2),
-    ]
-}
+ghost use Rattle.space.specs.Rows.{BoundedRow, ExactRow, widest};
+ghost use Rattle.points.specs.Points.{Vertex};
+ghost use Rattle.sides.specs.Sides.{Three, normalOf, sign, sideOf, inLine, isLeft, isInside, isOn};
 
 // Where a point lies against a plane.
 pub enum Side {
@@ -74,7 +52,11 @@ pub fn side_of(points: &[i32], a: u16, b: u16, c: u16, d: u16) -> Side
     requires { ⌜ Vertex (now points) d ⌝ }
     ensures { λ r. ⌜ r ≡ sideOf (now (points .entry)) a b c d ⌝ }
 {
-    sign(rows::determinant([row(points, a, b), row(points, a, c), row(points, a, d)]))
+    sign(rows::determinant([
+        points::row(points, a, b),
+        points::row(points, a, c),
+        points::row(points, a, d),
+    ]))
 }
 
 // The normal of the plane through a, b and c.
@@ -82,7 +64,7 @@ pub fn normal(points: &[i32], a: u16, b: u16, c: u16) -> [i64; 3]
     requires { ⌜ Three (now points) a b c ⌝ }
     ensures { λ r. ⌜ ExactRow widest (normalOf (now (points .entry)) a b c) r ⌝ }
 {
-    rows::cross(row(points, a, b), row(points, a, c))
+    rows::cross(points::row(points, a, b), points::row(points, a, c))
 }
 
 // Whether a, b and c lie in line: their plane's normal is nought.
@@ -99,5 +81,5 @@ pub fn is_left(points: &[i32], n: [i64; 3], a: u16, b: u16, c: u16) -> bool
     requires { ⌜ BoundedRow widest n ⌝ }
     ensures { λ r. ⌜ r ≡ isLeft (now (points .entry)) n a b c ⌝ }
 {
-    space::is_above(rows::determinant([n, row(points, a, b), row(points, a, c)]))
+    space::is_above(rows::determinant([n, points::row(points, a, b), points::row(points, a, c)]))
 }

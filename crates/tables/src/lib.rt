@@ -3,7 +3,7 @@ ghost use mathlib.Core.Path.{_≡_};
 ghost use Prim.Native.Nat.{_+_, _≤_, _<_};
 ghost use lib.ListN.{length};
 ghost use Rattle.whole.specs.First.{anyBelow};
-ghost use Rattle.tables.specs.Tables.{Widened, facets, facetOf, nextPosition};
+ghost use Rattle.tables.specs.Tables.{Widened, facets, facetOf};
 ghost use Rattle.tables.specs.Size.{wrongLengths, wrongEnds, wrongSides, isSize, Laid};
 ghost use Rattle.tables.specs.LookUp.{lookUp};
 
@@ -131,16 +131,4 @@ pub fn facet<'a>(points: &[i32], corners: &'a [u16], begins: &[u16], f: usize) -
         return part(corners, begins, f);
     }
     &corners[0..0]
-}
-
-// The position after p in a circuit of n.
-pub fn next_position(n: usize, p: usize) -> usize
-    requires { ⌜ p < n ⌝ }
-    ensures { λ r. ⌜ (r ≡ nextPosition n p) × (r < n) ⌝ }
-{
-    let on = p + 1;
-    if on == n {
-        return 0;
-    }
-    on
 }

@@ -8,8 +8,7 @@ use lib.ListN.{length, getD}
 use Rattle.whole.specs.First.{anyBelow, NoneYet}
 use Rattle.space.specs.Rows.{ExactRow, widest}
 use Rattle.sides.specs.Sides.{normalOf, isLeft}
-use Rattle.flat.specs.Facet.{Facet}
-use Rattle.tables.specs.Tables.{nextPosition}
+use Rattle.flat.specs.Facet.{Facet, cornerAfter}
 use Rattle.tables.specs.Facets.{inFacets}
 use Rattle.tables.specs.declared.Found.{Found}
 
@@ -22,7 +21,7 @@ strays points n a b c = cond (eqb c a) false (cond (eqb c b) false (not (isLeft 
 
 unfoldable pub isTurn : List ℤ → List ℕ → ℕ → Bool
 isTurn points part p =
-    anyBelow (λ q. strays points (normalIn points part) (getD part p 0) (getD part (nextPosition (length part) p) 0) (getD part q 0)) (length part)
+    anyBelow (λ q. strays points (normalIn points part) (getD part p 0) (cornerAfter part p) (getD part q 0)) (length part)
 
 -- the loop over a facet's edges has passed those before p, with the facet's normal n
 pub record Unturned (points : List ℤ) (part : List ℕ) (n : List ℤ) (p : ℕ) : Type 0 where

@@ -47,8 +47,7 @@ fn first_turn(points: &[i32], part: &[u16]) -> usize
     let n = sides::normal(points, part[0], part[1], part[2]);
     let mut p = 0;
     while p < part.len() {
-        let on = tables::next_position(part.len(), p);
-        if some_stray(points, part, n, part[p], part[on]) {
+        if some_stray(points, part, n, part[p], flat::corner_after(part, p)) {
             return p;
         }
         p += 1;

@@ -1,5 +1,5 @@
 -- `outside::outside` meets its contract: where no neighbour is outside, no vertex is. Assumes nothing.
-use Rattle.outside.specs.Passed.{passed-over}
+use Rattle.outside.specs.Scannable.{passed-over}
 use Rattle.outside.proofs.outside.Statement.{statement}
 use Rattle.outside.proofs.outside.Tie as tie
 

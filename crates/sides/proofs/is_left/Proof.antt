@@ -2,7 +2,7 @@
 use borrow.Author.Needs.{needs, sfits-of}
 use mir.Facts.{toZ-ofZ}
 use Rattle.space.specs.Vectors.{_-_}
-use Rattle.sides.specs.Sides.{differenceOf}
+use Rattle.points.specs.Points.{differenceOf}
 use Rattle.sides.proofs.is_left.Statement.{statement}
 use Rattle.sides.proofs.is_left.Tie as tie
 

@@ -2,7 +2,7 @@
 use borrow.Author.Needs.{needs}
 use Rattle.space.specs.Vectors.{_-_}
 use Rattle.space.specs.Rows.{row-wide}
-use Rattle.sides.specs.Sides.{differenceOf}
+use Rattle.points.specs.Points.{differenceOf}
 use Rattle.sides.proofs.normal.Statement.{statement}
 use Rattle.sides.proofs.normal.Tie as tie
 

@@ -3,7 +3,7 @@ use borrow.Author.Needs.{needs, sfits-of}
 use mir.Facts.{toZ-ofZ}
 use Rattle.space.specs.Vectors.{_-_}
 use Rattle.space.specs.Rows.{row-wide}
-use Rattle.sides.specs.Sides.{differenceOf}
+use Rattle.points.specs.Points.{differenceOf}
 use Rattle.sides.proofs.side_of.Statement.{statement}
 use Rattle.sides.proofs.side_of.Tie as tie
 

@@ -1,0 +1,3 @@
+-- A number in decimal, written.
+pub mod Shown
+pub mod Stored

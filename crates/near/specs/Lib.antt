@@ -1,0 +1,2 @@
+-- OUTSIDE at the neighbours of each facet's corners.
+pub mod Near

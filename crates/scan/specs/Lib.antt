@@ -1,0 +1,2 @@
+-- OUTSIDE facet by facet, vertex by vertex.
+pub mod Rules
