@@ -19,7 +19,7 @@ use Rattle.tables.specs.Tables.{from, to}
 use Rattle.edges.specs.Chains.{leaves}
 use Rattle.edges.specs.Edge.{isEdge}
 use Rattle.height.specs.Height.{height, Placed, placed-is}
-use Rattle.climb.specs.Step.{isNeighbour, isHigher, isHighest, moveTo, moveUp, step}
+use Rattle.climb.specs.Move.{isNeighbour, isHigher, isHighest, moveTo, moveUp, step}
 use Rattle.climb.specs.Best.{Beats, higher, level, Best}
 use Rattle.direction.specs.declared.Direction.{Direction}
 use Rattle.climb.specs.declared.Standing.{Standing}

@@ -6,7 +6,7 @@ ghost use Rattle.space.specs.Rows.{BoundedRow, ExactRow, longest, widest};
 ghost use Rattle.points.specs.Points.{Vertex, Ranged};
 ghost use Rattle.sides.specs.Sides.{Three, differenceOf, rowOf, normalOf, sign, sideOf, inLine, isLeft, isInside, isOn};
 
-// Coordinate k of the step from a to b.
+// Coordinate k of the difference b-a.
 fn difference(points: &[i32], a: u16, b: u16, k: usize) -> i64
     requires { ⌜ Ranged (now points) × Vertex (now points) a × Vertex (now points) b × (k < 3) ⌝ }
     ensures { λ r. ⌜ Exact longest (differenceOf (now (points .entry)) a b k) r ⌝ }
@@ -14,7 +14,7 @@ fn difference(points: &[i32], a: u16, b: u16, k: usize) -> i64
     points::wide_coord(points, b as usize, k) - points::wide_coord(points, a as usize, k)
 }
 
-// The step from a to b.
+// The row of the difference b-a.
 fn row(points: &[i32], a: u16, b: u16) -> [i64; 3]
     requires { ⌜ Ranged (now points) × Vertex (now points) a × Vertex (now points) b ⌝ }
     ensures { λ r. ⌜ ExactRow longest (rowOf (now (points .entry)) a b) r ⌝ }
