@@ -6,7 +6,8 @@ use Prim.Native.Nat.{ℕ, _≤_, _<_}
 use native.Mathlib.Omega.{arith}
 use lib.Dec.{eqb, ltb}
 use borrow.Author.Tests.{eqb-true, ltb-true}
-use Rattle.tables.specs.Found.{lowest, firstPlace, Lowest, First, Nowhere, NoPlace, Searched, Sought, found-at, found-none, place-at, place-none}
+use Rattle.whole.specs.First.{Nowhere, Lowest}
+use Rattle.tables.specs.Found.{lowest, firstPlace, First, NoPlace, Searched, Sought, found-at, found-none, place-at, place-none}
 use Rattle.tables.specs.Found.{searched, sought, lowest-none, first-none, lowest-is, nowhere-is, first-is, no-place-is}
 use Rattle.tables.specs.declared.Found.{Found}
 use Rattle.tables.specs.declared.Found.the-variants.{At, Nothing}
@@ -31,13 +32,13 @@ placeOf (ofPlaces n counts test) = firstPlace n counts test
 -- what it means that a rule applies first at a place ..
 abbrev pub AppliesFirst : Search → ℕ → ℕ → Type 0
 AppliesFirst (ofAll test) a b = (test ≡ true) × ((a ≡ 0) × (b ≡ 0))
-AppliesFirst (ofEach n test) a b = Lowest n test a × (b ≡ 0)
+AppliesFirst (ofEach n test) a b = Lowest test n a × (b ≡ 0)
 AppliesFirst (ofPlaces n counts test) a b = First n counts test a b
 
 -- .. and that it applies nowhere
 abbrev pub AppliesNever : Search → Type 0
 AppliesNever (ofAll test) = test ≡ false
-AppliesNever (ofEach n test) = Nowhere n test
+AppliesNever (ofEach n test) = Nowhere test n
 AppliesNever (ofPlaces n counts test) = NoPlace n counts test
 
 differ : {a b : ℕ} → _≡_ {A = Found} (At a b) Nothing → ⊥
@@ -48,7 +49,7 @@ applies-first (ofAll true) e = (refl, (cc, cc))
 applies-first (ofAll false) e = absurd (differ (sym e))
 applies-first (ofEach n test) e = go (searched n test) e
   where
-    go : {r : Found} {a b : ℕ} → Searched n test r → r ≡ At a b → Lowest n test a × (b ≡ 0)
+    go : {r : Found} {a b : ℕ} → Searched n test r → r ≡ At a b → Lowest test n a × (b ≡ 0)
     go {a = a} (found-at {v} h) e = let s : v ≡ a = cc in (rw (← s) h, cc)
     go (found-none h) e = absurd (differ (sym e))
 applies-first (ofPlaces n counts test) e = go (sought n counts test) e

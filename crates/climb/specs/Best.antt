@@ -24,7 +24,7 @@ use Rattle.edges.specs.Along.{link-place}
 use Rattle.flat.specs.Facet.{Measured}
 use Rattle.height.specs.Height.{height, spot, better, Placed}
 use Rattle.direction.specs.Direction.{Permitted}
-use Rattle.climb.specs.Step.{isNeighbour}
+use Rattle.climb.specs.Move.{isNeighbour}
 use Rattle.climb.specs.Ready.{Ready, small}
 use Rattle.direction.specs.declared.Direction.{Direction}
 use Rattle.climb.specs.declared.Standing.{Standing}

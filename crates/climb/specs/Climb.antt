@@ -11,7 +11,7 @@ use Rattle.tables.specs.Tables.{mostVertices}
 use Rattle.edges.specs.Index.{Leaving}
 use Rattle.flat.specs.Facet.{Measured}
 use Rattle.direction.specs.Direction.{Permitted}
-use Rattle.climb.specs.Step.{begin, step}
+use Rattle.climb.specs.Move.{begin, step}
 use Rattle.climb.specs.Ready.{Ready}
 use Rattle.climb.specs.Stepped.{Stepped, moved, stayed}
 use Rattle.climb.specs.Course.{after, finish, stood, trailed}

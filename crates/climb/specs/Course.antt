@@ -4,7 +4,7 @@ use Prim.Native.Nat.{ℕ, zero, suc, _+_}
 use lib.IntN.{ℤ}
 use lib.ListN.{drop}
 use Rattle.points.specs.Points.{vertices}
-use Rattle.climb.specs.Step.{begin, step}
+use Rattle.climb.specs.Move.{begin, step}
 use Rattle.direction.specs.declared.Direction.{Direction}
 use Rattle.climb.specs.declared.Standing.{Standing}
 

@@ -1,5 +1,5 @@
 -- One step of the walk, and steps until none rises.
-pub mod Step
+pub mod Move
 pub mod Course
 pub mod Best
 pub mod Ready

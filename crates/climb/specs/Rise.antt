@@ -14,7 +14,7 @@ use Rattle.whole.specs.Order.{eq→le, <-trans, ltZ-true, true-ltZ, false-ltZ}
 use Rattle.whole.specs.Count.{countBelow, count-le, count-less}
 use Rattle.points.specs.Points.{vertices, Vertex}
 use Rattle.height.specs.Height.{height, Placed}
-use Rattle.climb.specs.Step.{isNeighbour, isHigher, moveTo, step}
+use Rattle.climb.specs.Move.{isNeighbour, isHigher, moveTo, step}
 use Rattle.climb.specs.Stepped.{Chosen, Stepped, moved, stayed, stepped, step-direction}
 use Rattle.climb.specs.Course.{after, finish, stood}
 use Rattle.direction.specs.declared.Direction.{Direction}

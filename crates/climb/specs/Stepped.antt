@@ -12,14 +12,14 @@ use lib.Signed.{ltZ, _≤ℤ_, _<ℤ_}
 use lib.ListN.{length}
 use borrow.Author.Tests.{ltb-true, eqb-true, not-true}
 use Rattle.whole.specs.Order.{lt→le, eq→le, ≤-trans, clash, le-or-lt, ltZ-true, true-ltZ, ltZ-false, false-ltZ}
-use Rattle.whole.specs.First.{firstBelow, anyBelow, first-holds, before-first, none-all, hit, any-none, any-false}
+use Rattle.whole.specs.First.{firstBelow, anyBelow, Nowhere, first-holds, before-first, none-all, hit, any-none, any-false}
 use Rattle.whole.specs.Count.{both, is-false}
 use Rattle.points.specs.Points.{vertices, Vertex}
 use Rattle.tables.specs.Tables.{from, to}
 use Rattle.edges.specs.Chains.{leaves}
 use Rattle.edges.specs.Edge.{isEdge}
 use Rattle.height.specs.Height.{height, Placed, placed-is}
-use Rattle.climb.specs.Step.{isNeighbour, isHigher, isHighest, moveTo, moveUp, step}
+use Rattle.climb.specs.Move.{isNeighbour, isHigher, isHighest, moveTo, moveUp, step}
 use Rattle.climb.specs.Best.{Beats, higher, level, Best}
 use Rattle.direction.specs.declared.Direction.{Direction}
 use Rattle.climb.specs.declared.Standing.{Standing}
@@ -41,7 +41,7 @@ joined corners begins v u e =
 
 -- where a test holds below n, and h is greatest
 data Greatest (f : ℕ → Bool) (h : ℕ → ℤ) (n : ℕ) : Type 0 where
-  nowhere : ((w : ℕ) → w < n → f w ≡ false) → Greatest f h n
+  nowhere : Nowhere f n → Greatest f h n
   at : (u : ℕ) → u < n → f u ≡ true → ((w : ℕ) → w < n → f w ≡ true → h w ≤ℤ h u) → Greatest f h n
 
 greatest : (f : ℕ → Bool) (h : ℕ → ℤ) (n : ℕ) → Greatest f h n
@@ -143,7 +143,7 @@ module _ (points : List ℤ) (corners begins : List ℕ) (s : Standing) where
         found : isTop (b .vertex) ≡ true
         found = highest-is points corners begins d best
 
-        lowest : (k : ℕ) → k < b .vertex → isTop k ≡ false
+        lowest : Nowhere isTop (b .vertex)
         lowest k m = is-false _ (λ e.
             let H = is-highest points corners begins d v k e in
             elim (beaten k (H .neighbour)) [

@@ -2,7 +2,7 @@
 ghost use mathlib.Core.Path.{_≡_};
 ghost use Rattle.points.specs.Points.{Vertex, Ranged};
 ghost use Rattle.direction.specs.Direction.{Permitted};
-ghost use Rattle.climb.specs.Step.{begin, step};
+ghost use Rattle.climb.specs.Move.{begin, step};
 ghost use Rattle.climb.specs.Best.{Best};
 ghost use Rattle.climb.specs.Ready.{Ready};
 ghost use Rattle.climb.specs.Climb.{Climbs, Climbed};

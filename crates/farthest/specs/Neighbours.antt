@@ -9,7 +9,7 @@ use Rattle.tables.specs.Tables.{homeOf}
 use Rattle.tables.specs.Size.{Laid}
 use Rattle.solid.specs.Tables.{Tables, Edge, Closed}
 use Rattle.bridge.specs.Surface.{tablesOf, edge-runs, runs-edge}
-use Rattle.climb.specs.Step.{isNeighbour}
+use Rattle.climb.specs.Move.{isNeighbour}
 use Rattle.climb.specs.Best.{end-neighbour}
 use Rattle.climb.specs.Stepped.{joined}
 

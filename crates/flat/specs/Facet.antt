@@ -39,10 +39,9 @@ pub record Measured (points : List ℤ) (corners begins : List ℕ) : Type 0 whe
   pub ranged : Ranged points
   pub sound : Sound (vertices points) corners begins
 
--- the loop over the facets has passed those before f, of m
-pub record Passing (points : List ℤ) (corners begins : List ℕ) (test : List ℕ → ℕ → Bool) (m f : ℕ) : Type 0 where
+-- the loop over the facets has passed those before f
+pub record Passing (points : List ℤ) (corners begins : List ℕ) (test : List ℕ → ℕ → Bool) (f : ℕ) : Type 0 where
   pub measured : Measured points corners begins
-  pub upto : f ≤ m
   pub clear : Clear corners begins test f
 
 pub facet : {points : List ℤ} {corners begins : List ℕ} → Measured points corners begins → {f : ℕ} → f < facets begins

@@ -7,7 +7,7 @@ ghost use Rattle.points.specs.Range.{InRange};
 ghost use Rattle.space.specs.Rows.{longest};
 ghost use Rattle.once_round.specs.Words.{count, Point, point, differenceOf, isLeft, left, notLeft};
 
-// Coordinate k of the step from point a to point b.
+// Coordinate k of the difference b-a.
 fn difference(points: &[i32], a: usize, b: usize, k: usize) -> i64
     requires { ⌜ InRange (now points) × Point (now points) a × Point (now points) b × (k < 2) ⌝ }
     ensures { λ r. ⌜ Exact longest (differenceOf (now (points .entry)) a b k) r ⌝ }

@@ -3,21 +3,17 @@ use mathlib.Core.Path.{_≡_, refl, sym, _∙_, ap, subst}
 use mathlib.Core.Bool.{Bool, true, false, cond, not}
 use mathlib.Core.List.{List}
 use mathlib.Core.Logic.{_≢_, _↔_}
-use Prim.Native.Nat.{ℕ, _<_}
+use Prim.Native.Nat.{ℕ}
 use native.Mathlib.Omega.{arith}
 use lib.Dec.{T, eqb}
 use lib.IntN.{ℤ}
 use lib.ListN.{length}
 use borrow.Author.Tests.{lt-ltb, eq-eqb, not-false}
-use Rattle.whole.specs.First.{FirstAt, first-at, at-first, picked, not-picked, never, none-all, miss}
+use Rattle.whole.specs.First.{Nowhere, Lowest, first-lowest, lowest-first, picked, not-picked, never, none-all, miss}
 use Rattle.outline.specs.declared.Verdict.{Verdict}
 use Rattle.once_round.specs.Words.{count, few, outOfRange, left, notLeft, wound, Counted, Limits, LocallyConvex}
 use Rattle.outline.specs.Outline.{verdict, refuse, judgedTurns, judgedOutline}
 use Rattle.once_round.specs.Limits.{counted, not-few, none-out, in-range}
-
--- a test holds at no point
-abbrev pub NoPoint : (ℕ → Bool) → ℕ → Type 0
-NoPoint test n = (i : ℕ) → i < n → test i ≡ false
 
 -- two numbers differ, by computation
 abbrev pub Other : ℕ → ℕ → Type 0
@@ -30,20 +26,20 @@ differ {a} {b} t e = subst (λ c. T (not c)) (eq-eqb a b (ap (λ v. v .number) e
 
 module _ (number : ℕ) (test : ℕ → Bool) (n : ℕ) (later : Verdict) where
   -- an answer with another number
-  pub passed : (m i : ℕ) → Other number m → (refuse number test n later ≡ verdict m i) ↔ (NoPoint test n × (later ≡ verdict m i))
+  pub passed : (m i : ℕ) → Other number m → (refuse number test n later ≡ verdict m i) ↔ (Nowhere test n × (later ≡ verdict m i))
   passed m i t = (to, λ h. sym (miss (verdict number) later (none-all test n (h .0)) (omega arith) (omega arith)) ∙ h .1)
     where
-      to : refuse number test n later ≡ verdict m i → NoPoint test n × (later ≡ verdict m i)
+      to : refuse number test n later ≡ verdict m i → Nowhere test n × (later ≡ verdict m i)
       to e = let p = not-picked test n (verdict number) later (verdict m i) (λ k. differ t) e in (never test n (p .0), p .1)
 
   -- an answer with this number
-  pub refused : (i : ℕ) → later ≢ verdict number i → (refuse number test n later ≡ verdict number i) ↔ FirstAt test n i
-  refused i other = (to, λ h. rw (at-first h, lt-ltb i n (h .below)))
+  pub refused : (i : ℕ) → later ≢ verdict number i → (refuse number test n later ≡ verdict number i) ↔ Lowest test n i
+  refused i other = (to, λ h. rw (← lowest-first h, lt-ltb i n (h .below)))
     where
-      to : refuse number test n later ≡ verdict number i → FirstAt test n i
+      to : refuse number test n later ≡ verdict number i → Lowest test n i
       to e =
           let p = picked test n (verdict number) later (verdict number i) other e in
-          rw (ap (λ v. v .place) (p .1)) at (first-at test n (p .0))
+          rw (ap (λ v. v .place) (p .1)) at (first-lowest test n (p .0))
 
 -- ---- the four
 
@@ -66,7 +62,7 @@ module _ (points : List ℤ) where
       → (judgedOutline points ≡ verdict m i) ↔ (Limits points × (judgedTurns points ≡ verdict m i))
   past-range m i t u = (to, λ h. past-few m i t .1 (h .0 .counted, ranges .1 (λ j l. none-out points (h .0 .range) j, h .1)))
     where
-      ranges : (afterFew ≡ verdict m i) ↔ (NoPoint (outOfRange points) (count points) × (judgedTurns points ≡ verdict m i))
+      ranges : (afterFew ≡ verdict m i) ↔ (Nowhere (outOfRange points) (count points) × (judgedTurns points ≡ verdict m i))
       ranges = passed 2 (outOfRange points) (count points) (judgedTurns points) m i u
 
       to : judgedOutline points ≡ verdict m i → Limits points × (judgedTurns points ≡ verdict m i)
@@ -75,7 +71,7 @@ module _ (points : List ℤ) where
           let b = ranges .0 (a .1) in
           (record { counted = a .0; range = in-range points (a .0) (b .0) }, b .1)
 
-  turned : (m i : ℕ) → Other 25 m → (judgedTurns points ≡ verdict m i) ↔ (NoPoint (notLeft points) (count points) × (afterLeft ≡ verdict m i))
+  turned : (m i : ℕ) → Other 25 m → (judgedTurns points ≡ verdict m i) ↔ (Nowhere (notLeft points) (count points) × (afterLeft ≡ verdict m i))
   unfolding judgedTurns
   turned m i t = passed 25 (notLeft points) (count points) afterLeft m i t
 
@@ -90,7 +86,7 @@ module _ (points : List ℤ) where
           (record { limits = a .0; turns = λ j l. not-false (left points j) (b .0 j l) }, b .1)
 
   pub past-wound : (m i : ℕ) → Other 26 m
-      → (afterLeft ≡ verdict m i) ↔ (NoPoint (wound points) (count points) × (verdict 0 (count points) ≡ verdict m i))
+      → (afterLeft ≡ verdict m i) ↔ (Nowhere (wound points) (count points) × (verdict 0 (count points) ≡ verdict m i))
   past-wound = passed 26 (wound points) (count points) (verdict 0 (count points))
 
   -- ---- no number is answered later in the order

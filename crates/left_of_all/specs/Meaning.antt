@@ -6,7 +6,7 @@ use mathlib.Core.Logic.{_↔_, Iff·trans, Iff·and, Iff·rfl}
 use Prim.Native.Nat.{ℕ}
 use lib.IntN.{ℤ}
 use lib.ListN.{length}
-use Rattle.whole.specs.First.{FirstAt}
+use Rattle.whole.specs.First.{Lowest}
 use Rattle.outline.specs.declared.Verdict.{Verdict}
 use Rattle.once_round.specs.Words.{count, few, outOfRange, notLeft, far, wound, Counted, Limits, LocallyConvex, AllLeft}
 use Rattle.outline.specs.Outline.{verdict, judgedTurns, judgedOutline}
@@ -37,13 +37,13 @@ module _ (points : List ℤ) where
       from false e h = absurd (h .0 (counted points e))
 
   -- "2 RANGE, first point" with a coordinate outside its limits
-  pub range-means : (i : ℕ) → (judgedOutline points ≡ verdict 2 i) ↔ (Counted points × FirstAt (outOfRange points) (count points) i)
+  pub range-means : (i : ℕ) → (judgedOutline points ≡ verdict 2 i) ↔ (Counted points × Lowest (outOfRange points) (count points) i)
   range-means i =
       Iff·trans (past-few points 2 i tt)
       (Iff·and Iff·rfl (refused 2 (outOfRange points) (count points) (judgedTurns points) i (not-turns points 2 i tt tt tt)))
 
   -- "25 LEFT, first point whose turn isn't left"
-  pub left-means : (i : ℕ) → (judgedOutline points ≡ verdict 25 i) ↔ (Limits points × FirstAt (notLeft points) (count points) i)
+  pub left-means : (i : ℕ) → (judgedOutline points ≡ verdict 25 i) ↔ (Limits points × Lowest (notLeft points) (count points) i)
   unfolding judgedTurns
   left-means i =
       Iff·trans (past-range points 25 i tt tt)

@@ -9,6 +9,7 @@ use lib.Dec.{ltb, eqb}
 use lib.IntN.{ℤ, pos}
 use lib.ListN.{length, getD}
 use borrow.Author.Tests.{ltb-false, eqb-true, not-false, le-ltb, eq-eqb}
+use Rattle.whole.specs.First.{Nowhere}
 use Rattle.whole.specs.Count.{neither}
 use Rattle.points.specs.Range.{isOut, InRange, not-out, all-in}
 use Rattle.once_round.specs.Words.{count, coordOf, few, outOfRange, Counted}
@@ -32,7 +33,7 @@ pub none-out : (points : List ℤ) → InRange points → (i : ℕ) → outOfRan
 unfolding coordOf
 none-out points h i = rw (not-out (coordOf points i 0) (h (i * 2 + 0)), not-out (coordOf points i 1) (h (i * 2 + 1)))
 
-pub in-range : (points : List ℤ) → Counted points → ((i : ℕ) → i < count points → outOfRange points i ≡ false) → InRange points
+pub in-range : (points : List ℤ) → Counted points → Nowhere (outOfRange points) (count points) → InRange points
 unfolding coordOf
 in-range points c h = all-in points (λ k l. cases k l (ℕ-discrete (k % 2) 0))
   where

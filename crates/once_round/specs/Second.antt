@@ -6,7 +6,7 @@ use Prim.Native.Nat.{ℕ, _<_}
 use native.Mathlib.Decide.{decLt}
 use native.Mathlib.Omega.{arith}
 use borrow.Author.Tests.{lt-ltb, ltb-true, ltb-false}
-use Rattle.whole.specs.First.{firstBelow, anyBelow, never, first-holds, some-first, FirstAt}
+use Rattle.whole.specs.First.{firstBelow, anyBelow, never, first-holds, some-first, Nowhere, Lowest}
 use Rattle.whole.specs.Count.{both}
 
 -- the test holds at place i, and at a place before it
@@ -30,10 +30,10 @@ pub record Second (f : ℕ → Bool) (n i : ℕ) : Type 0 where
   pub holds : f i ≡ true
   pub one : One f i
 
-pub at-most-one : (f : ℕ → Bool) (n : ℕ) → ((i : ℕ) → i < n → again f i ≡ false) → AtMostOne f n
+pub at-most-one : (f : ℕ → Bool) (n : ℕ) → Nowhere (again f) n → AtMostOne f n
 at-most-one f n h a b l m p q = true≢false (sym p ∙ never f b (ltb-false (firstBelow f b) b (rw (q, and-true) at (h b m))) a l)
 
-pub no-second : (f : ℕ → Bool) (n : ℕ) → AtMostOne f n → (i : ℕ) → i < n → again f i ≡ false
+pub no-second : (f : ℕ → Bool) (n : ℕ) → AtMostOne f n → Nowhere (again f) n
 no-second f n h i l = go (again f i) (λ e. let b = both (anyBelow f i) (f i) e in let k = ltb-true (firstBelow f i) i (b .0) in
     h (firstBelow f i) i k l (first-holds f i k) (b .1))
   where
@@ -55,16 +55,16 @@ exactly-one f n k h l e = record {
 pub at-most : (f : ℕ → Bool) (n : ℕ) → One f n → AtMostOne f n
 at-most f n o a b l m p q = let e = o .only a (omega arith) p in let e' = o .only b m q in omega arith
 
-pub the-second : (f : ℕ → Bool) (n i : ℕ) → FirstAt (again f) n i ↔ Second f n i
+pub the-second : (f : ℕ → Bool) (n i : ℕ) → Lowest (again f) n i ↔ Second f n i
 the-second f n i = (to, from)
   where
-    to : FirstAt (again f) n i → Second f n i
+    to : Lowest (again f) n i → Second f n i
     to h =
         let b = both (anyBelow f i) (f i) (h .holds) in
         let k = ltb-true (firstBelow f i) i (b .0) in
         record { below = h .below; holds = b .1; one = exactly-one f i (firstBelow f i) (at-most-one f i (h .before)) k (first-holds f i k) }
 
-    from : Second f n i → FirstAt (again f) n i
+    from : Second f n i → Lowest (again f) n i
     from s = record {
       below = s .below;
       holds = rw (lt-ltb (firstBelow f i) i (some-first f i (s .one .at) (s .one .below) (s .one .holds))) (s .holds);

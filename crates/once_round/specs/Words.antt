@@ -25,7 +25,7 @@ Point points i = i < count points
 unfoldable pub coordOf : List ℤ → ℕ → ℕ → ℤ
 coordOf points i k = getD points (i * 2 + k) (pos 0)
 
--- coordinate k of the step from point a to point b
+-- coordinate k of the difference b-a of two points
 unfoldable pub differenceOf : List ℤ → ℕ → ℕ → ℕ → ℤ
 differenceOf points a b k = coordOf points b k -ℤ coordOf points a k
 

@@ -1,16 +1,16 @@
 -- Places as positions of facets: a search over the run finds the lowest facet and then the lowest position. Assumes nothing.
 use mathlib.Core.Path.{_≡_, sym, ap, _∙_}
-use mathlib.Core.Bool.{Bool, true, false}
+use mathlib.Core.Bool.{Bool, true}
 use mathlib.Core.List.{List}
 use Prim.Native.Nat.{ℕ, _+_, _-_, _<_}
 use native.Mathlib.Omega.{arith}
 use native.Mathlib.Decide.{decLt}
 use lib.ListN.{length}
-use Rattle.whole.specs.First.{None, never}
+use Rattle.whole.specs.First.{Nowhere, None, never}
 use Rattle.tables.specs.Tables.{facets, begin, sides, cornerOf, homeOf, from}
 use Rattle.tables.specs.Size.{Laid}
 use Rattle.tables.specs.Places.{home, home-is, home-rise, corner-at, place-in, place-below}
-use Rattle.tables.specs.Found.{firstPlace, Nowhere, first-is, no-place-is, first-none}
+use Rattle.tables.specs.Found.{firstPlace, first-is, no-place-is, first-none}
 use Rattle.tables.specs.declared.Found.{Found}
 use Rattle.tables.specs.declared.Found.the-variants.{At, Nothing}
 
@@ -58,13 +58,13 @@ module _ {corners begins : List ℕ} (L : Laid corners begins) (test : ℕ → B
         earlier = λ g q k h. unmet _ (early L g q l k h);
       }))
     where
-      unmet : (q : ℕ) → q < p → test q ≡ false
+      unmet : Nowhere test p
       unmet = never test p (omega (arith, n .upto))
 
-  pub flat-none : Nowhere (length corners) test → byFacets begins test ≡ Nothing
+  pub flat-none : Nowhere test (length corners) → byFacets begins test ≡ Nothing
   flat-none h = no-place-is (λ f p l k. h _ (place-below L l k))
 
-  pub none-flat : byFacets begins test ≡ Nothing → Nowhere (length corners) test
+  pub none-flat : byFacets begins test ≡ Nothing → Nowhere test (length corners)
   none-flat e p l =
       let o = position L l in
       rw (o .is) at (first-none (facets begins) (sides begins) (λ f p. test (begin begins f + p)) e (homeOf begins p) (o .at) (o .facet) (o .side))

@@ -1,4 +1,4 @@
--- The cross product of two rows, and its parts: exact, and smaller where both rows are steps.
+-- The cross product of two rows, and its parts: exact, and smaller where both rows are differences.
 use Prim.Native.Nat.{ℕ}
 use mathlib.Core.List.{List}
 use lib.IntN.{ℤ, pos}

@@ -7,7 +7,7 @@ ghost use Rattle.space.specs.Rows.{BoundedRow, ThreeRows, longest, widest, broa
 ghost use Rattle.space.specs.Nought.{isNought};
 ghost use Rattle.rows.specs.Cross.{MinorAt, CrossProduct};
 
-// The determinant of columns j and k of two rows, the first of a normal or a step, the second of a step.
+// The determinant of columns j and k of two rows, the first a normal or a difference, the second a difference.
 fn minor_at(p: [i64; 3], q: [i64; 3], j: usize, k: usize) -> i64
     requires { ⌜ BoundedRow widest p × BoundedRow longest q × (j < 3) × (k < 3) ⌝ }
     ensures { λ r. ⌜ MinorAt p q j k r ⌝ }
@@ -15,7 +15,7 @@ fn minor_at(p: [i64; 3], q: [i64; 3], j: usize, k: usize) -> i64
     space::minor(p[j], p[k], q[j], q[k])
 }
 
-// The cross product of a normal or a step and a step.
+// The cross product of a normal or a difference and a difference.
 pub fn cross(p: [i64; 3], q: [i64; 3]) -> [i64; 3]
     requires { ⌜ BoundedRow widest p × BoundedRow longest q ⌝ }
     ensures { λ r. ⌜ CrossProduct p q r ⌝ }

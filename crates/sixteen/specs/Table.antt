@@ -26,7 +26,7 @@ use Rattle.reflex.specs.Rules.{isReflex}
 use Rattle.scan.specs.Rules.{isOutside}
 use Rattle.judge.specs.Judge.{judged}
 use Rattle.direction.specs.Direction.{direction, isSteep}
-use Rattle.climb.specs.Step.{step}
+use Rattle.climb.specs.Move.{step}
 use Rattle.climb.specs.Course.{after, stood}
 use Rattle.walk.specs.Walk.{walked, trailAfter}
 use Rattle.direction.specs.declared.Direction.{Direction}

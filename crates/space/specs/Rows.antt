@@ -11,7 +11,7 @@ use Rattle.space.specs.Vec.{Vec, vec, cross}
 use Rattle.space.specs.Vectors.{det}
 use Rattle.space.specs.Plane as plane
 
--- the bounds of a number of a step, of a normal, of the cross product of a normal and a step, and of the product of that with a step:
+-- the bounds of a number of a difference, of a normal, of the cross product of a normal and a difference, and of its product with a difference:
 -- 2 · 8,191, twice its square, and what follows from these two
 abbrev pub longest : ℕ
 longest = 16382
@@ -40,12 +40,12 @@ pub record ExactRow (N : ℕ) (z r : List ℤ) : Type 0 where
   pub is : r ≡ z
   pub small : BoundedRow N r
 
--- the determinant r of a b and c d, smaller where a b is of a step
+-- the determinant r of a b and c d, smaller where a b is of a difference
 pub record Minored (a b c d r : ℤ) : Type 0 where
   pub exact : Exact broadest (plane.det (plane.vec a b) (plane.vec c d)) r
   pub small : Difference a → Difference b → Minor r
 
--- the first row may be a normal, the other two are steps
+-- the first row may be a normal, the other two are differences
 pub record ThreeRows (m : List (List ℤ)) : Type 0 where
   pub first : BoundedRow widest (getD m 0 [])
   pub second : BoundedRow longest (getD m 1 [])
@@ -74,7 +74,7 @@ row-of {N} {x} {y} {z} p q r = record { at = each }
     each (suc (suc zero)) = r
     each (suc (suc (suc j))) = record { abs = zero-le }
 
--- a row of steps may stand in the first place
+-- a row of differences may stand in the first place
 pub row-wide : {r : List ℤ} → BoundedRow longest r → BoundedRow widest r
 row-wide h = record { at = λ j. within-≤ (h .at j) (omega arith) }
 

@@ -6,7 +6,7 @@ ghost use Rattle.space.specs.Vectors.{_·_};
 ghost use Rattle.space.specs.Rows.{Difference, Minor, broadest, largest, Minored};
 ghost use Rattle.space.specs.Nought.{isBelow, isAbove, isZero};
 
-// The determinant of the rows a b, of a normal or a step, and c d, of a step.
+// The determinant of the rows a b, of a normal or a difference, and c d, of a difference.
 pub fn minor(a: i64, b: i64, c: i64, d: i64) -> i64
     requires { ⌜ Minor a × Minor b × Difference c × Difference d ⌝ }
     ensures { λ r. ⌜ Minored a b c d r ⌝ }

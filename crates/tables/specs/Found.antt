@@ -1,13 +1,12 @@
 -- "Within it, the first place wins": searches for the first place at which a rule applies, and what their answers mean. Assumes nothing.
 use mathlib.Core.Path.{_≡_, refl, sym, _∙_, ap}
-use mathlib.Core.Bool.{Bool, true, false, cond, true≢false}
+use mathlib.Core.Bool.{Bool, true, false, cond}
 use Prim.Native.Nat.{ℕ, _+_, _≤_, _<_}
 use native.Mathlib.Nat.{le-refl}
 use native.Mathlib.Omega.{arith}
-use lib.Dec.{ltb}
 use borrow.Author.Tests.{lt-ltb, le-ltb, ltb-true, ltb-false}
-use Rattle.whole.specs.First.{firstBelow, anyBelow, pickBelow, None, none-0, none-more, none-all, never, first-holds, found, hit, miss, before-first}
-use Rattle.whole.specs.First.{any-none, any-is}
+use Rattle.whole.specs.First.{firstBelow, anyBelow, pickBelow, Nowhere, Lowest, none-all, never, first-holds, before-first, first-lowest, lowest-first}
+use Rattle.whole.specs.First.{hit, miss, any-none, any-is, NoneYet, yet-0, yet-more}
 use Rattle.tables.specs.declared.Found.{Found}
 use Rattle.tables.specs.declared.Found.the-variants.{At, Nothing}
 
@@ -27,30 +26,21 @@ firstPlace n sizes test = pickBelow (somewhere sizes test) n (within sizes test)
 
 -- ---- what the answers mean
 
--- the rule applies at vertex v, and at none before
-pub record Lowest (n : ℕ) (test : ℕ → Bool) (v : ℕ) : Type 0 where
-  pub below : v < n
-  pub applies : test v ≡ true
-  pub before : (u : ℕ) → u < v → test u ≡ false
-
 -- the rule applies at (f, p), and at no place before
 pub record First (n : ℕ) (sizes : ℕ → ℕ) (test : ℕ → ℕ → Bool) (f p : ℕ) : Type 0 where
   pub facet : f < n
   pub place : p < sizes f
   pub applies : test f p ≡ true
-  pub before : (q : ℕ) → q < p → test f q ≡ false
+  pub before : Nowhere (test f) p
   pub earlier : (g q : ℕ) → g < f → q < sizes g → test g q ≡ false
-
-abbrev pub Nowhere : ℕ → (ℕ → Bool) → Type 0
-Nowhere n test = (v : ℕ) → v < n → test v ≡ false
 
 abbrev pub NoPlace : ℕ → (ℕ → ℕ) → (ℕ → ℕ → Bool) → Type 0
 NoPlace n sizes test = (f p : ℕ) → f < n → p < sizes f → test f p ≡ false
 
 -- a search's answer, read by cases
 pub data Searched (n : ℕ) (test : ℕ → Bool) : Found → Type 0 where
-  found-at : {v : ℕ} → Lowest n test v → Searched n test (At v 0)
-  found-none : Nowhere n test → Searched n test Nothing
+  found-at : {v : ℕ} → Lowest test n v → Searched n test (At v 0)
+  found-none : Nowhere test n → Searched n test Nothing
 
 pub data Sought (n : ℕ) (sizes : ℕ → ℕ) (test : ℕ → ℕ → Bool) : Found → Type 0 where
   place-at : {f p : ℕ} → First n sizes test f p → Sought n sizes test (At f p)
@@ -60,7 +50,7 @@ pub searched : (n : ℕ) (test : ℕ → Bool) → Searched n test (lowest n tes
 searched n test = go (anyBelow test n) refl
   where
     go : (t : Bool) → anyBelow test n ≡ t → Searched n test (cond t (At (firstBelow test n) 0) Nothing)
-    go true e = let l = ltb-true _ _ e in found-at (record { below = l; applies = first-holds test n l; before = before-first test n })
+    go true e = found-at (first-lowest test n (ltb-true _ _ e))
     go false e = found-none (never test n (ltb-false _ _ e))
 
 pub sought : (n : ℕ) (sizes : ℕ → ℕ) (test : ℕ → ℕ → Bool) → Sought n sizes test (firstPlace n sizes test)
@@ -69,7 +59,7 @@ sought n sizes test = go (anyBelow some n) refl
     some : ℕ → Bool
     some = somewhere sizes test
 
-    none : (g : ℕ) → some g ≡ false → (q : ℕ) → q < sizes g → test g q ≡ false
+    none : (g : ℕ) → some g ≡ false → Nowhere (test g) (sizes g)
     none g e = never (test g) (sizes g) (ltb-false _ _ e)
 
     go : (t : Bool) → anyBelow some n ≡ t → Sought n sizes test (cond t (within sizes test (firstBelow some n)) Nothing)
@@ -87,10 +77,10 @@ sought n sizes test = go (anyBelow some n) refl
     go false e = place-none (λ f p l. none f (never some n (ltb-false _ _ e) f l) p)
 
 -- a search that found nothing
-pub lowest-none : (n : ℕ) (test : ℕ → Bool) → lowest n test ≡ Nothing → Nowhere n test
+pub lowest-none : (n : ℕ) (test : ℕ → Bool) → lowest n test ≡ Nothing → Nowhere test n
 lowest-none n test = go (searched n test)
   where
-    go : {r : Found} → Searched n test r → r ≡ Nothing → Nowhere n test
+    go : {r : Found} → Searched n test r → r ≡ Nothing → Nowhere test n
     go (found-at h) e = let z : _≡_ {A = ℕ} 0 1 = cc in absurd (omega arith)
     go (found-none h) e = h
 
@@ -102,54 +92,38 @@ first-none n sizes test = go (sought n sizes test)
     go (place-none h) e = h
 
 -- and the other way: no two answers fit
-pub lowest-is : {n : ℕ} {test : ℕ → Bool} {v : ℕ} → Lowest n test v → lowest n test ≡ At v 0
-lowest-is {n} {test} {v} h = sym (hit (λ u. At u 0) Nothing (none-all test v (h .before)) (h .applies) (h .below))
+pub lowest-is : {n : ℕ} {test : ℕ → Bool} {v : ℕ} → Lowest test n v → lowest n test ≡ At v 0
+lowest-is {n} {test} {v} h = sym (hit (λ u. At u 0) Nothing (none-all test v (h .before)) (h .holds) (h .below))
 
-pub nowhere-is : {n : ℕ} {test : ℕ → Bool} → Nowhere n test → lowest n test ≡ Nothing
+pub nowhere-is : {n : ℕ} {test : ℕ → Bool} → Nowhere test n → lowest n test ≡ Nothing
 nowhere-is {n} {test} h = sym (miss (λ v. At v 0) Nothing (none-all test n h) (le-refl n) (le-refl n))
 
 pub first-is : {n : ℕ} {sizes : ℕ → ℕ} {test : ℕ → ℕ → Bool} {f p : ℕ} → First n sizes test f p → firstPlace n sizes test ≡ At f p
 first-is {n} {sizes} {test} {f} {p} h =
     sym (hit (within sizes test) Nothing (none-all (somewhere sizes test) f (λ g l. any-none (test g) (sizes g) (λ q. h .earlier g q l)))
     (any-is (test f) (sizes f) p (h .place) (h .applies)) (h .facet))
-    ∙ ap (At f) (sym (found (none-all (test f) p (h .before)) (h .applies) (h .place)))
+    ∙ ap (At f) (sym (lowest-first (record { below = h .place; holds = h .applies; before = h .before })))
 
 pub no-place-is : {n : ℕ} {sizes : ℕ → ℕ} {test : ℕ → ℕ → Bool} → NoPlace n sizes test → firstPlace n sizes test ≡ Nothing
 no-place-is {n} {sizes} {test} h =
     sym (miss (within sizes test) Nothing (none-all (somewhere sizes test) n (λ f l. any-none (test f) (sizes f) (λ p. h f p l))) (le-refl n) (le-refl n))
 
--- ---- a loop over the facets: p is the first position of facet f at which the rule applies, or q, the number of its sides
+-- ---- a loop over n facets, of sizes f places each, that has passed those before f
 
-module _ (n : ℕ) (sizes : ℕ → ℕ) (test : ℕ → ℕ → Bool) {f p q : ℕ} (none : None (somewhere sizes test) f)
-    (is : p ≡ firstBelow (test f) q) (size : q ≡ sizes f) where
-  all : p ≡ firstBelow (test f) (sizes f)
-  all = is ∙ ap (firstBelow (test f)) size
-
-  pub facet-hit : p < q → f < n → At f p ≡ firstPlace n sizes test
-  facet-hit l m =
-      let h : somewhere sizes test f ≡ true = lt-ltb _ _ (rw (all, size) at l) in
-      ap (At f) all ∙ hit (within sizes test) Nothing none h m
-
-  pub facet-miss : q ≤ p → None (somewhere sizes test) (f + 1)
-  facet-miss l =
-      let h : somewhere sizes test f ≡ false = le-ltb _ _ (rw (all, size) at l) in
-      none-more none h
-
--- the test holds nowhere in the facets before f, where facet f has sizes f positions: what such a loop carries
 pub record Free (n : ℕ) (sizes : ℕ → ℕ) (test : ℕ → ℕ → Bool) (f : ℕ) : Type 0 where
-  pub upto : f ≤ n
-  pub none : None (somewhere sizes test) f
+  pub yet : NoneYet (somewhere sizes test) n f
 
 pub free-0 : (n : ℕ) (sizes : ℕ → ℕ) (test : ℕ → ℕ → Bool) → Free n sizes test 0
-free-0 n sizes test = record { upto = omega arith; none = none-0 (somewhere sizes test) }
+free-0 n sizes test = record { yet = yet-0 }
 
 module _ {n : ℕ} {sizes : ℕ → ℕ} {test : ℕ → ℕ → Bool} {f : ℕ} (free : Free n sizes test f) where
-  module _ {p : ℕ} (l : f < n) (is : p ≡ firstBelow (test f) (sizes f)) where
+  -- p is the first place of facet f at which the rule applies, or their number
+  module _ {p : ℕ} (l : f < n) (first : p ≡ firstBelow (test f) (sizes f)) where
     pub free-hit : p < sizes f → At f p ≡ firstPlace n sizes test
-    free-hit h = facet-hit n sizes test (free .none) is refl h l
+    free-hit h = ap (At f) first ∙ hit (within sizes test) Nothing (free .yet .none) (lt-ltb _ _ (rw first at h)) l
 
     pub free-more : sizes f ≤ p → Free n sizes test (f + 1)
-    free-more h = record { upto = omega arith; none = facet-miss n sizes test (free .none) is refl h }
+    free-more h = record { yet = yet-more (free .yet) (le-ltb _ _ (rw first at h)) l }
 
   pub free-all : n ≤ f → Nothing ≡ firstPlace n sizes test
-  free-all h = miss (within sizes test) Nothing (free .none) (free .upto) h
+  free-all = miss (within sizes test) Nothing (free .yet .none) (free .yet .upto)

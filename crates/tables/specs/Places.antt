@@ -8,11 +8,11 @@ use native.Mathlib.Omega.{arith}
 use native.Mathlib.Numerals.{add-one}
 use native.Mathlib.Decide.{decLt}
 use lib.Dec.{ltb, eqb}
-use lib.ListN.{length, getD, take, drop, length-take, length-drop}
+use lib.ListN.{length, getD, drop, length-take, length-drop}
 use lib.Seq.{getD-take, getD-drop}
 use borrow.Author.Tests.{lt-ltb, le-ltb, eqb-true, eqb-false}
-use Rattle.whole.specs.First.{firstBelow, none-all, found}
-use Rattle.tables.specs.Tables.{leastVertices, mostVertices, mostCorners, facets, begin, end, sides, facetOf, cornerOf, homeOf, nextOf, from, to}
+use Rattle.whole.specs.First.{none-all, found}
+use Rattle.tables.specs.Tables.{leastVertices, mostVertices, mostCorners, facets, begin, end, sides, facetOf, cornerOf, homeOf, nextOf, from}
 use Rattle.tables.specs.Size.{Laid}
 
 -- each corner is one of n vertices

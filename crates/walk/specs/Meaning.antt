@@ -15,7 +15,7 @@ use Rattle.edges.specs.Index.{Indexed, leaves-each}
 use Rattle.judge.specs.Judge.{judged}
 use Rattle.accepts.specs.Meaning.{is-measured}
 use Rattle.direction.specs.Direction.{isWrong, Permitted, permitted, not-wrong, wrong-exactly}
-use Rattle.climb.specs.Step.{begin}
+use Rattle.climb.specs.Move.{begin}
 use Rattle.climb.specs.Course.{finish, trailed}
 use Rattle.climb.specs.Climb.{Climbs, climbs, Climbed}
 use Rattle.walk.specs.Walk.{halted, arrived, fromStart, walked, trailAfter}

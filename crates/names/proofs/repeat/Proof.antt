@@ -1,14 +1,14 @@
 -- `names::repeat` meets its contract: the law of searches, facet by facet. Assumes nothing.
 use borrow.Author.Needs.{needs}
 use native.Mathlib.Omega.{arith}
-use Prim.Native.Nat.{_-_, _≤_}
+use Prim.Native.Nat.{_-_}
 use Rattle.tables.specs.Facets.{Clear, clear-0, clear-hit, clear-more, clear-all}
 use Rattle.names.specs.Rules.{again}
 use Rattle.names.proofs.repeat.Statement.{statement}
 use Rattle.names.proofs.repeat.Tie as tie
 
 abbrev Inv-loop : tie.InvT-loop
-Inv-loop corners begins m f₀ f = (f ≤ m) × Clear corners begins again f
+Inv-loop corners begins m f₀ f = Clear corners begins again f
 
 abbrev μ-loop : tie.MeasureT-loop
 μ-loop corners begins m f₀ f = m - f
@@ -17,14 +17,13 @@ returns : tie.Need-returns Inv-loop μ-loop
 returns c =
     let w = c .before in
     let l = w .before .before .before in
-    clear-hit (l .before .before .before .pre) (omega arith) (l .loop .inv .1) (w .before .part .ensures) (w .first-again .ensures) (c .if1 .taken)
+    clear-hit (l .loop .inv) (l .before .before .before .pre) (omega arith) (w .before .part .ensures) (w .first-again .ensures) (c .if1 .taken)
 
 loop-again : tie.Need-loop-again Inv-loop μ-loop
 loop-again c =
     let w = c .before in
     let l = w .before .before .before in
-    let laid = l .before .before .before .pre in
-    (omega arith, clear-more laid (omega arith) (l .loop .inv .1) (w .before .part .ensures) (w .first-again .ensures) (c .if1 .left))
+    clear-more (l .loop .inv) (l .before .before .before .pre) (omega arith) (w .before .part .ensures) (w .first-again .ensures) (c .if1 .left)
 
 pub repeat-spec : {M : Type 1} → statement M
 repeat-spec =
@@ -33,11 +32,11 @@ repeat-spec =
     Inv-loop
     μ-loop
     (λ c. omega (arith, c .before .before .pre .some))
-    (λ c. (omega arith, clear-0))
+    (λ c. clear-0)
     (λ c κs. (c .before .before .before .before .pre, omega arith))
     (λ c κs. search needs)
     returns
     (λ c. omega arith)
     (λ c. omega arith)
     loop-again
-    (λ c. clear-all (c .before .loop .inv .1) (omega arith) (omega arith)))
+    (λ c. clear-all (c .before .loop .inv) (omega arith)))

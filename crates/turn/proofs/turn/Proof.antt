@@ -1,15 +1,14 @@
 -- `turn::turn` meets its contract: the law of searches, facet by facet. Assumes nothing.
-use borrow.Author.Needs.{needs}
 use native.Mathlib.Omega.{arith}
 use Prim.Native.Nat.{_-_}
-use Rattle.tables.specs.Facets.{Clear, clear-0, clear-hit, clear-more, clear-all}
+use Rattle.tables.specs.Facets.{clear-0, clear-hit, clear-more, clear-all}
 use Rattle.flat.specs.Facet.{Passing, facet}
 use Rattle.turn.specs.Rules.{isTurn}
 use Rattle.turn.proofs.turn.Statement.{statement}
 use Rattle.turn.proofs.turn.Tie as tie
 
 abbrev Inv-loop : tie.InvT-loop
-Inv-loop points corners begins m f₀ f = Passing points corners begins (isTurn points) m f
+Inv-loop points corners begins m f₀ f = Passing points corners begins (isTurn points) f
 
 abbrev μ-loop : tie.MeasureT-loop
 μ-loop points corners begins m f₀ f = m - f
@@ -18,17 +17,15 @@ returns : tie.Need-returns Inv-loop μ-loop
 returns c =
     let p = c .before .before in
     let i = p .before .before .loop .inv in
-    clear-hit (i .measured .sound .laid) (omega arith) (i .clear) (p .part .ensures) (c .before .first-turn .ensures) (c .if1 .taken)
+    clear-hit (i .clear) (i .measured .sound .laid) (omega arith) (p .part .ensures) (c .before .first-turn .ensures) (c .if1 .taken)
 
 loop-again : tie.Need-loop-again Inv-loop μ-loop
 loop-again c =
     let p = c .before .before in
     let i = p .before .before .loop .inv in
-    let l = i .measured .sound .laid in
     record {
       measured = i .measured;
-      upto = omega arith;
-      clear = clear-more l (omega arith) (i .clear) (p .part .ensures) (c .before .first-turn .ensures) (c .if1 .left);
+      clear = clear-more (i .clear) (i .measured .sound .laid) (omega arith) (p .part .ensures) (c .before .first-turn .ensures) (c .if1 .left);
     }
 
 pub turn-spec : {M : Type 1} → statement M
@@ -38,11 +35,11 @@ turn-spec =
     Inv-loop
     μ-loop
     (λ c. omega (arith, c .before .before .pre .sound .laid .some))
-    (λ c. record { measured = c .before .before .pre; upto = omega arith; clear = clear-0 })
+    (λ c. record { measured = c .before .before .pre; clear = clear-0 })
     (λ c κs. (c .before .loop .inv .measured .sound .laid, omega arith))
     (λ c κs. rw (c .part .ensures) (facet (c .before .before .loop .inv .measured) (omega arith)))
     returns
     (λ c. omega arith)
     (λ c. omega arith)
     loop-again
-    (λ c. clear-all (c .before .loop .inv .clear) (omega arith) (omega arith)))
+    (λ c. clear-all (c .before .loop .inv .clear) (omega arith)))

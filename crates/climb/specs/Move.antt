@@ -1,4 +1,4 @@
--- "The walk": the rule of one step. Assumes nothing.
+-- "The walk": the neighbour that a move leads to, and the step, which moves there or stops. Assumes nothing.
 use mathlib.Core.Bool.{Bool, cond, not, _&&_}
 use mathlib.Core.List.{List}
 use Prim.Native.Nat.{ℕ, _+_}
