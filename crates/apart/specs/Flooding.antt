@@ -1,4 +1,4 @@
--- The code's flooding from facet 0: what the marks and the queue hold before, in and after each facet's turn. Assumes nothing.
+-- The code's flooding from facet 0: what the marks and the queue hold before, in and after the visit of each facet. Assumes nothing.
 use mathlib.Core.Path.{_≡_, refl, sym, ap, _∙_}
 use mathlib.Core.Bool.{Bool, true, false, not}
 use mathlib.Core.List.{List}
@@ -17,7 +17,7 @@ use Rattle.edges.specs.Index.{small, home-is, home-at-in}
 use Rattle.pair.specs.Across.{Crossed, across-small, facet-across}
 use Rattle.apart.specs.Apart.{flooded, isApart, Reached, across-facet, some-facet, flooded-all, flooded-only}
 
--- ---- reached by the index and the begins alone, so that a facet's turn needs no corners
+-- ---- reached by the index and the begins alone, so that a visit needs no corners
 
 -- the last of the begins
 abbrev pub runLength : List ℕ → ℕ
@@ -47,9 +47,9 @@ module _ {corners begins : List ℕ} {edges : List (List ℕ)} {heads : List ℕ
   across-below : (p : ℕ) → p < runLength begins → facetAcrossAt edges p < facets begins
   across-below p l = rw (facet-across C (in-run l)) (across-facet (C .indexed .tables .laid) (C .paired) p (in-run l))
 
--- ---- a facet's turn
+-- ---- the visit of a facet
 
--- facet f, one of these, has its turn
+-- facet f, one of these, is visited
 pub record Visit (begins : List ℕ) (edges : List (List ℕ)) (marks queue : List ℕ) (tail f : ℕ) : Type 0 where
   pub corners : List ℕ
   pub heads : List ℕ
@@ -125,13 +125,13 @@ module _ {begins : List ℕ} {edges : List (List ℕ)} {marks queue : List ℕ} 
     pub visiting-end : last ≤ p → Spreading begins edges f (end begins f) marks queue tail marks′ queue′ n
     visiting-end l = let e : end begins f ≡ p = omega (arith, S .ends, S .high) in rw e (S .spread)
 
--- ---- the turns
+-- ---- the visits
 
 -- a mark at each facet that is reached
 abbrev pub ReachMarks : List ℕ → List ℕ → List ℕ → Type 0
 ReachMarks corners begins = Flooded (length corners) (facets begins) (homeOf begins) (facetAcross corners begins)
 
--- the queue's first `head` facets had their turn
+-- the queue's first `head` facets were visited
 pub record Reaching (corners begins : List ℕ) (edges : List (List ℕ)) (heads marks queue : List ℕ) (head tail : ℕ) : Type 0 where
   pub crossed : Crossed corners begins edges heads
   pub flood : Flood mostFacets (runLength begins) (facets begins) (homeAt edges) (facetAcrossAt edges) marks queue head tail

@@ -25,7 +25,7 @@ fn push(marks: &mut Marks, queue: &mut Queue, tail: usize, g: usize) -> usize
     tail
 }
 
-// The turn of facet f: the facets across its edges are pushed.
+// The visit of facet f: the facets across its edges are pushed.
 fn spread(
     begins: &[u16],
     edges: &index::Edges,

@@ -58,7 +58,7 @@ pub fn wide_coord(points: &[i32], v: usize, k: usize) -> i64
     widen(coord(points, v, k))
 }
 
-// Coordinate k of the step from a to b.
+// Coordinate k of the difference b-a.
 fn difference(points: &[i32], a: u16, b: u16, k: usize) -> i64
     requires { ⌜ Ranged (now points) × Vertex (now points) a × Vertex (now points) b × (k < 3) ⌝ }
     ensures { λ r. ⌜ Exact longest (differenceOf (now (points .entry)) a b k) r ⌝ }
@@ -66,7 +66,7 @@ fn difference(points: &[i32], a: u16, b: u16, k: usize) -> i64
     wide_coord(points, b as usize, k) - wide_coord(points, a as usize, k)
 }
 
-// The step from a to b.
+// The row of the difference b-a.
 pub fn row(points: &[i32], a: u16, b: u16) -> [i64; 3]
     requires { ⌜ Ranged (now points) × Vertex (now points) a × Vertex (now points) b ⌝ }
     ensures { λ r. ⌜ ExactRow longest (rowOf (now (points .entry)) a b) r ⌝ }

@@ -169,7 +169,7 @@ module _ {size m : ℕ} {R : ℕ → Type 0} {marks queue : List ℕ} {tail : �
       go true e = push-new Q l (eqb-true _ _ e) r
       go false e = push-old Q (eqb-false _ _ e)
 
--- ---- a turn: all that b p names for p from lo to hi are pushed
+-- ---- a visit: all that b p names for p from lo to hi are pushed
 
 pub record Spread (size m : ℕ) (R : ℕ → Type 0) (b : ℕ → ℕ) (lo hi : ℕ) (marks queue : List ℕ) (tail : ℕ) (marks′ queue′ : List ℕ) (tail′ : ℕ)
     : Type 0 where

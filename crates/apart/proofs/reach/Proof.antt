@@ -1,4 +1,4 @@
--- `apart::reach` meets its contract. The loop's invariant: the queue's first `head` facets had their turn. Assumes nothing.
+-- `apart::reach` meets its contract. The loop's invariant: the queue's first `head` facets were visited. Assumes nothing.
 use borrow.Author.Needs.{needs}
 use Prim.Native.Nat.{_-_}
 use native.Mathlib.Omega.{arith}
