@@ -1,5 +1,5 @@
 // The lists of the stored cases' text: how many numbers, then each.
-ghost use Rattle.case_lists.specs.Begin.{Begin};
+ghost use Rattle.whole.specs.Begin.{Begin};
 
 // Stores a list at the beginning of a longer one; how many numbers it has.
 pub fn fill_points(text: &[u8], at: &mut usize, list: &mut [i32]) -> usize

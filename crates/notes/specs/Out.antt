@@ -11,7 +11,8 @@ use Rattle.walk.specs.declared.Walked.{Walked}
 use Rattle.lines.specs.Line.{numberOf}
 use Rattle.out.specs.Noted.{noted, three}
 
-pub record Told (number : ℕ) (numbers old new : List ℤ) (r : ℕ) : Type 0 where
+-- the number is returned, and the numbers are noted in `out`
+pub record NumberAndNotes (number : ℕ) (numbers old new : List ℤ) (r : ℕ) : Type 0 where
   pub number-is : r ≡ number
   pub out-is : new ≡ noted numbers old
 

@@ -15,7 +15,8 @@ use Rattle.walk.specs.declared.Walked.{Walked}
 use Rattle.lines.specs.Line.{numberOf}
 use Rattle.walk_tape.specs.Tape.{trail, walkedTape}
 use Rattle.input.specs.Input.{startIn, directionIn}
-use Rattle.programs.specs.Lines.{movesOf, walkNumbers}
+use Rattle.answer_lines.specs.Lines.{movesOf}
+use Rattle.programs.specs.Lines.{walkNumbers}
 
 -- "On a refusal, the reader's included, the other three print 0."
 abbrev pub refusal : ℕ → List ℤ

@@ -52,8 +52,9 @@ pub fn walk(
     start: usize,
     trail: &mut [u16],
 ) -> Walked
-    ensures { λ r. ⌜ r ≡ walked (now (points .entry)) (now (corners .entry)) (now (begins .entry)) direction start (now (trail .entry)) ⌝ }
-    ensures { λ r. ⌜ now (trail .exit) ≡ trailAfter (now (points .entry)) (now (corners .entry)) (now (begins .entry)) direction start (now (trail .entry)) ⌝ }
+    ensures answer { λ r. ⌜ r ≡ walked (now (points .entry)) (now (corners .entry)) (now (begins .entry)) direction start (now (trail .entry)) ⌝ }
+    ensures trail { λ _. ⌜ now (trail .exit) ≡
+        trailAfter (now (points .entry)) (now (corners .entry)) (now (begins .entry)) direction start (now (trail .entry)) ⌝ }
 {
     let mut edges = [[0u16; 4]; tables::MOST_CORNERS];
     let mut heads = [0u16; tables::MOST_VERTICES];

@@ -15,3 +15,4 @@ pub mod Rounds
 pub mod Flood
 pub mod Joined
 pub mod Over
+pub mod Begin

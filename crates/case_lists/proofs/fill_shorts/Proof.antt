@@ -4,7 +4,7 @@ use mathlib.Core.Path.{_≡_, refl}
 use Prim.Native.Nat.{_-_}
 use native.Mathlib.Omega.{arith}
 use lib.ListN.{length, length-set}
-use Rattle.case_lists.specs.Begin.{begin}
+use Rattle.whole.specs.Begin.{is-begin}
 use Rattle.case_lists.proofs.fill_shorts.Statement.{statement}
 use Rattle.case_lists.proofs.fill_shorts.Tie as tie
 
@@ -29,4 +29,4 @@ fill-shorts-spec =
     (λ c. search needs)
     (λ c. simp length-set (c .before .before .before .loop .inv))
     (λ c. c .before .loop .inv)
-    (λ c. begin _ _ (omega arith)))
+    (λ c. is-begin _ _ (omega arith)))

@@ -8,7 +8,7 @@ use Rattle.notes.proofs.note_verdict.Tie as tie
 returns : tie.Need-returns
 returns c =
     let n = c .before .before .before .before in
-    record { number-is = refl; out-is = rw (c .before .note .ensures, number-read _ (n .number-of .ensures)) }
+    record { number-is = refl; out-is = rw (c .before .note .ensures, number-read (n .before .args .verdict .place) (n .number-of .ensures)) }
 
 pub note-verdict-spec : {M : Type 1} → statement M
 note-verdict-spec =

@@ -1,4 +1,4 @@
--- The beginning of a list that is lent. Assumes nothing.
+-- The first entries of a list. Assumes nothing.
 use mathlib.Core.Path.{_≡_, sym}
 use mathlib.Core.List.{List}
 use Prim.Native.Nat.{ℕ, _≤_}
@@ -9,5 +9,5 @@ use lib.Seq.{length-take-le}
 abbrev pub Begin : {A : Type 0} → ℕ → List A → Type 0
 Begin n xs = (n ≤ length xs) × (n ≡ length (take n xs))
 
-pub begin : {A : Type 0} (n : ℕ) (xs : List A) → n ≤ length xs → Begin n xs
-begin n xs h = (h, sym (length-take-le n xs h))
+pub is-begin : {A : Type 0} (n : ℕ) (xs : List A) → n ≤ length xs → Begin n xs
+is-begin n xs h = (h, sym (length-take-le n xs h))

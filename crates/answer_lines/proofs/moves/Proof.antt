@@ -1,12 +1,12 @@
--- `programs::moves` meets its contract. Assumes nothing.
+-- `answer_lines::moves` meets its contract. Assumes nothing.
 use borrow.Author.Needs.{needs}
 use mir.Syntax.{w64}
 use mir.Val.{SFits}
 use mir.Facts.{toZ-ofZ}
 use Rattle.lines.specs.Line.{number-read}
-use Rattle.programs.specs.Lines.{movesOf, printed}
-use Rattle.programs.proofs.moves.Statement.{statement}
-use Rattle.programs.proofs.moves.Tie as tie
+use Rattle.answer_lines.specs.Lines.{movesOf, printed}
+use Rattle.answer_lines.proofs.moves.Statement.{statement}
+use Rattle.answer_lines.proofs.moves.Tie as tie
 
 returns : tie.Need-returns
 returns c =

@@ -1,9 +1,9 @@
--- `programs::places` meets its contract. Assumes nothing.
+-- `answer_lines::places` meets its contract. Assumes nothing.
 use borrow.Author.Needs.{needs}
 use Rattle.lines.specs.Line.{number-read}
-use Rattle.programs.specs.Lines.{placesOf, printed}
-use Rattle.programs.proofs.places.Statement.{statement}
-use Rattle.programs.proofs.places.Tie as tie
+use Rattle.answer_lines.specs.Lines.{placesOf, printed}
+use Rattle.answer_lines.proofs.places.Statement.{statement}
+use Rattle.answer_lines.proofs.places.Tie as tie
 
 returns : tie.Need-returns
 returns c =

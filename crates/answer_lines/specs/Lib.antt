@@ -1,0 +1,2 @@
+-- The line of an answer, and of a walk.
+pub mod Lines

@@ -1,2 +1,0 @@
--- What the contracts on the stored cases' lists cite.
-pub mod Begin
