@@ -3,7 +3,7 @@ use mathlib.Core.Path.{_≡_, refl, sym, ap, _∙_}
 use mathlib.Core.Logic.{inl, inr}
 use mathlib.Core.Bool.{Bool, true, false, cond, not, _&&_, true≢false}
 use mathlib.Core.List.{List}
-use Prim.Native.Nat.{ℕ, zero, suc, _+_, _≤_, _<_}
+use Prim.Native.Nat.{ℕ, zero, suc, _+_, _<_}
 use native.Mathlib.Omega.{arith}
 use native.Mathlib.Decide.{ℕ-discrete}
 use lib.Dec.{eqb}
@@ -12,7 +12,7 @@ use lib.Signed.{ltZ, _≤ℤ_, _<ℤ_}
 use lib.ListN.{length}
 use borrow.Author.Tests.{ltb-true, eqb-true, not-true}
 use Rattle.whole.specs.Order.{lt→le, eq→le, ≤-trans, clash, le-or-lt, ltZ-true, true-ltZ, ltZ-false, false-ltZ}
-use Rattle.whole.specs.First.{firstBelow, anyBelow, Nowhere, first-holds, before-first, none-all, hit, any-none, any-false}
+use Rattle.whole.specs.First.{firstBelow, anyBelow, Nowhere, first-holds, before-first, pick-lowest, any-none, any-false}
 use Rattle.whole.specs.Count.{both, is-false}
 use Rattle.points.specs.Points.{vertices, Vertex}
 use Rattle.tables.specs.Tables.{from, to}
@@ -129,7 +129,8 @@ module _ (points : List ℤ) (corners begins : List ℕ) (s : Standing) where
     pub best-moves : ltZ (s .spot .height) (b .height) ≡ true → record { direction = d; spot = b; moves = s .moves + 1 } ≡ step points corners begins s
     unfolding step
     best-moves e =
-        rw (placed-is (B .placed)) (rw (true-ltZ l) at (hit (λ u. moveUp points u s) s (none-all _ (b .vertex) lowest) found (B .placed .vertex)))
+        rw (placed-is (B .placed)) (rw (true-ltZ l) at (pick-lowest (λ u. moveUp points u s) s
+        (record { below = B .placed .vertex; holds = found; before = lowest })))
       where
         l : tall v <ℤ tall (b .vertex)
         l = ltZ-true _ _ (rw (A .high, B .placed .high) at e)

@@ -8,7 +8,7 @@ use borrow.Author.Tests.{le-ltb, ne-eqb}
 use lib.Dec.{eqb, ltb}
 use lib.IntN.{ℤ}
 use lib.ListN.{length, getD}
-use Rattle.whole.specs.First.{firstBelow, None, none-0, none-more, found, NoneYet}
+use Rattle.whole.specs.First.{firstBelow, NoneYet, yet-0, yet-more, yet-hit}
 use Rattle.sides.specs.Sides.{sideOf, inLine, isOn}
 use Rattle.sides.specs.declared.Side.{Side}
 use Rattle.tables.specs.Facets.{inFacets}
@@ -31,9 +31,9 @@ bent points corners begins = inFacets corners begins (isBent points)
 -- ---- BENT at each position
 
 module _ (points : List ℤ) (part : List ℕ) where
-  bent-start : None (isBent points part) 2
+  bent-start : 3 ≤ length part → NoneYet (isBent points part) (length part) 2
   unfolding isBent
-  bent-start = none-more (none-more (none-0 (isBent points part)) refl) refl
+  bent-start l = yet-more (yet-more yet-0 refl (omega arith)) refl (omega arith)
 
   pub bent-third : isBent points part 2 ≡ inLine points (getD part 0 0) (getD part 1 0) (getD part 2 0)
   unfolding isBent
@@ -46,10 +46,11 @@ module _ (points : List ℤ) (part : List ℕ) where
   -- where the loop over the later corners begins, and where it isn't reached
   pub in-line-at : 3 ≤ length part → inLine points (getD part 0 0) (getD part 1 0) (getD part 2 0) ≡ true
       → 2 ≡ firstBelow (isBent points part) (length part)
-  in-line-at l e = found bent-start (bent-third ∙ e) (omega arith)
+  in-line-at l e = yet-hit (bent-start l) (bent-third ∙ e) (omega arith)
 
-  pub not-in-line : inLine points (getD part 0 0) (getD part 1 0) (getD part 2 0) ≡ false → None (isBent points part) 3
-  not-in-line e = none-more bent-start (bent-third ∙ e)
+  pub not-in-line : 3 ≤ length part → inLine points (getD part 0 0) (getD part 1 0) (getD part 2 0) ≡ false
+      → NoneYet (isBent points part) (length part) 3
+  not-in-line l e = yet-more (bent-start l) (bent-third ∙ e) (omega arith)
 
   -- the loop over the later corners has passed those before p
   pub record Unbent (p : ℕ) : Type 0 where

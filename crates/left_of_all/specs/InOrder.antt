@@ -4,12 +4,11 @@ use mathlib.Core.Bool.{Bool, true, false, cond, not}
 use mathlib.Core.List.{List}
 use mathlib.Core.Logic.{_≢_, _↔_}
 use Prim.Native.Nat.{ℕ}
-use native.Mathlib.Omega.{arith}
 use lib.Dec.{T, eqb}
 use lib.IntN.{ℤ}
 use lib.ListN.{length}
-use borrow.Author.Tests.{lt-ltb, eq-eqb, not-false}
-use Rattle.whole.specs.First.{Nowhere, Lowest, first-lowest, lowest-first, picked, not-picked, never, none-all, miss}
+use borrow.Author.Tests.{eq-eqb, not-false}
+use Rattle.whole.specs.First.{Nowhere, Lowest, pick-lowest, pick-nowhere, picked, not-picked}
 use Rattle.outline.specs.declared.Verdict.{Verdict}
 use Rattle.once_round.specs.Words.{count, few, outOfRange, left, notLeft, wound, Counted, Limits, LocallyConvex}
 use Rattle.outline.specs.Outline.{verdict, refuse, judgedTurns, judgedOutline}
@@ -27,19 +26,19 @@ differ {a} {b} t e = subst (λ c. T (not c)) (eq-eqb a b (ap (λ v. v .number) e
 module _ (number : ℕ) (test : ℕ → Bool) (n : ℕ) (later : Verdict) where
   -- an answer with another number
   pub passed : (m i : ℕ) → Other number m → (refuse number test n later ≡ verdict m i) ↔ (Nowhere test n × (later ≡ verdict m i))
-  passed m i t = (to, λ h. sym (miss (verdict number) later (none-all test n (h .0)) (omega arith) (omega arith)) ∙ h .1)
+  passed m i t = (to, λ h. sym (pick-nowhere (verdict number) later (h .0)) ∙ h .1)
     where
       to : refuse number test n later ≡ verdict m i → Nowhere test n × (later ≡ verdict m i)
-      to e = let p = not-picked test n (verdict number) later (verdict m i) (λ k. differ t) e in (never test n (p .0), p .1)
+      to = not-picked test n (verdict number) later (verdict m i) (λ k. differ t)
 
   -- an answer with this number
   pub refused : (i : ℕ) → later ≢ verdict number i → (refuse number test n later ≡ verdict number i) ↔ Lowest test n i
-  refused i other = (to, λ h. rw (← lowest-first h, lt-ltb i n (h .below)))
+  refused i other = (to, λ h. sym (pick-lowest (verdict number) later h))
     where
       to : refuse number test n later ≡ verdict number i → Lowest test n i
       to e =
           let p = picked test n (verdict number) later (verdict number i) other e in
-          rw (ap (λ v. v .place) (p .1)) at (first-lowest test n (p .0))
+          rw (ap (λ v. v .place) (p .1)) at (p .0)
 
 -- ---- the four
 

@@ -8,7 +8,7 @@ use lib.Dec.{ltb}
 use borrow.Author.Tests.{eq-eqb, lt-ltb}
 use lib.IntN.{ℤ}
 use lib.ListN.{length, getD}
-use Rattle.whole.specs.First.{anyBelow, None, none-0, none-more, any-hit, any-miss}
+use Rattle.whole.specs.First.{anyBelow, NoneYet, yet-0, yet-more, any-hit, any-miss}
 use Rattle.whole.specs.Count.{lastBelow}
 use Rattle.points.specs.Points.{Vertex}
 use Rattle.tables.specs.Tables.{mostVertices, mostCorners, facets, facetOf, from, to}
@@ -60,8 +60,7 @@ pub record Nearing (points : List ℤ) (corners begins : List ℕ) (edges : List
   pub tables : Neighboured points corners begins edges heads
   pub facet-in : f < facets begins
   pub part-is : part ≡ facetOf corners begins f
-  pub upto : p ≤ length part
-  pub none-yet : None (λ p. isNear points corners begins part (getD part p 0)) p
+  pub yet : NoneYet (λ p. isNear points corners begins part (getD part p 0)) (length part) p
 
 -- .. and the loop along the chain of the corner at p: none of those before link q is
 pub record Chaining (points : List ℤ) (corners begins : List ℕ) (edges : List (List ℕ)) (heads : List ℕ) (f : ℕ) (part : List ℕ) (p q : ℕ) : Type 0 where
@@ -72,13 +71,7 @@ pub record Chaining (points : List ℤ) (corners begins : List ℕ) (edges : Lis
 module _ {points : List ℤ} {corners begins : List ℕ} {edges : List (List ℕ)} {heads : List ℕ} {f : ℕ} {part : List ℕ} where
   pub nearing-0 : Neighboured points corners begins edges heads → f < facets begins → part ≡ facetOf corners begins f
       → Nearing points corners begins edges heads f part 0
-  nearing-0 T l e = record {
-    tables = T;
-    facet-in = l;
-    part-is = e;
-    upto = omega arith;
-    none-yet = none-0 (λ p. isNear points corners begins part (getD part p 0));
-  }
+  nearing-0 T l e = record { tables = T; facet-in = l; part-is = e; yet = yet-0 }
 
   module _ {p : ℕ} (N : Nearing points corners begins edges heads f part p) where
     pub own-facet : Facet points part
@@ -96,7 +89,7 @@ module _ {points : List ℤ} {corners begins : List ℕ} {edges : List (List ℕ
 
     pub nearing-none : length part ≤ p → false ≡ nearFacet points corners begins f
     unfolding nearPart
-    nearing-none h = rw (← N .part-is) (any-miss (N .none-yet) (N .upto) h)
+    nearing-none h = rw (← N .part-is) (any-miss (N .yet) h)
 
   module _ {p q : ℕ} (C : Chaining points corners begins edges heads f part p q) where
     module _ (h : 0 < q) where
@@ -122,7 +115,7 @@ module _ {points : List ℤ} {corners begins : List ℕ} {edges : List (List ℕ
         unfolding isNear nearPart
         chaining-hit e =
             rw (← C .nearing .part-is)
-            (any-hit (C .nearing .none-yet) (lt-ltb 0 _ (rw (seeking-here (C .seeking) h (test-is ∙ e)) at h)) (C .here))
+            (any-hit (C .nearing .yet) (lt-ltb 0 _ (rw (seeking-here (C .seeking) h (test-is ∙ e)) at h)) (C .here))
 
         pub chaining-more : t ≡ false → Chaining points corners begins edges heads f part p (backAt edges (q - 1))
         chaining-more e = record { nearing = C .nearing; here = C .here; seeking = seeking-more (C .seeking) h (test-is ∙ e) }
@@ -134,30 +127,28 @@ module _ {points : List ℤ} {corners begins : List ℕ} {edges : List (List ℕ
       tables = C .nearing .tables;
       facet-in = C .nearing .facet-in;
       part-is = C .nearing .part-is;
-      upto = omega (arith, C .here);
-      none-yet = none-more (C .nearing .none-yet) (rw (← seeking-none (C .seeking) h) refl);
+      yet = yet-more (C .nearing .yet) (rw (← seeking-none (C .seeking) h) refl) (C .here);
     }
 
 -- ---- the loop over the facets: none of those before f has a neighbour of a corner outside
 
 pub record Looking (points : List ℤ) (corners begins : List ℕ) (edges : List (List ℕ)) (heads : List ℕ) (f : ℕ) : Type 0 where
   pub tables : Neighboured points corners begins edges heads
-  pub upto : f ≤ facets begins
-  pub none-yet : None (nearFacet points corners begins) f
+  pub yet : NoneYet (nearFacet points corners begins) (facets begins) f
 
 module _ {points : List ℤ} {corners begins : List ℕ} {edges : List (List ℕ)} {heads : List ℕ} where
   pub looking-0 : Neighboured points corners begins edges heads → Looking points corners begins edges heads 0
-  looking-0 T = record { tables = T; upto = omega arith; none-yet = none-0 (nearFacet points corners begins) }
+  looking-0 T = record { tables = T; yet = yet-0 }
 
   module _ {f : ℕ} (K : Looking points corners begins edges heads f) where
     module _ (l : f < facets begins) {t : Bool} (is : t ≡ nearFacet points corners begins f) where
       pub looking-hit : t ≡ true → true ≡ near points corners begins
       unfolding near
-      looking-hit e = any-hit (K .none-yet) (sym is ∙ e) l
+      looking-hit e = any-hit (K .yet) (sym is ∙ e) l
 
       pub looking-more : t ≡ false → Looking points corners begins edges heads (f + 1)
-      looking-more e = record { tables = K .tables; upto = omega arith; none-yet = none-more (K .none-yet) (sym is ∙ e) }
+      looking-more e = record { tables = K .tables; yet = yet-more (K .yet) (sym is ∙ e) l }
 
     pub looking-none : facets begins ≤ f → false ≡ near points corners begins
     unfolding near
-    looking-none h = any-miss (K .none-yet) (K .upto) h
+    looking-none h = any-miss (K .yet) h

@@ -1,13 +1,13 @@
 -- The second place at which a test holds: the first that has another before it. Assumes nothing.
-use mathlib.Core.Path.{_≡_, refl, sym, _∙_}
-use mathlib.Core.Bool.{Bool, true, false, _&&_, and-true, true≢false}
+use mathlib.Core.Path.{_≡_, sym, _∙_}
+use mathlib.Core.Bool.{Bool, true, _&&_, and-true, true≢false}
 use mathlib.Core.Logic.{_↔_}
 use Prim.Native.Nat.{ℕ, _<_}
 use native.Mathlib.Decide.{decLt}
 use native.Mathlib.Omega.{arith}
-use borrow.Author.Tests.{lt-ltb, ltb-true, ltb-false}
-use Rattle.whole.specs.First.{firstBelow, anyBelow, never, first-holds, some-first, Nowhere, Lowest}
-use Rattle.whole.specs.Count.{both}
+use borrow.Author.Tests.{lt-ltb, ltb-true}
+use Rattle.whole.specs.First.{firstBelow, anyBelow, any-false, first-holds, some-first, Nowhere, Lowest}
+use Rattle.whole.specs.Count.{both, is-false}
 
 -- the test holds at place i, and at a place before it
 abbrev pub again : (ℕ → Bool) → ℕ → Bool
@@ -31,15 +31,13 @@ pub record Second (f : ℕ → Bool) (n i : ℕ) : Type 0 where
   pub one : One f i
 
 pub at-most-one : (f : ℕ → Bool) (n : ℕ) → Nowhere (again f) n → AtMostOne f n
-at-most-one f n h a b l m p q = true≢false (sym p ∙ never f b (ltb-false (firstBelow f b) b (rw (q, and-true) at (h b m))) a l)
+at-most-one f n h a b l m p q = true≢false (sym p ∙ any-false f b (rw (q, and-true) at (h b m)) a l)
 
 pub no-second : (f : ℕ → Bool) (n : ℕ) → AtMostOne f n → Nowhere (again f) n
-no-second f n h i l = go (again f i) (λ e. let b = both (anyBelow f i) (f i) e in let k = ltb-true (firstBelow f i) i (b .0) in
+no-second f n h i l = is-false (again f i) (λ e.
+    let b = both (anyBelow f i) (f i) e in
+    let k = ltb-true (firstBelow f i) i (b .0) in
     h (firstBelow f i) i k l (first-holds f i k) (b .1))
-  where
-    go : (t : Bool) → (t ≡ true → ⊥) → t ≡ false
-    go true r = absurd (r refl)
-    go false r = refl
 
 pub exactly-one : (f : ℕ → Bool) (n k : ℕ) → AtMostOne f n → k < n → f k ≡ true → One f n
 exactly-one f n k h l e = record {

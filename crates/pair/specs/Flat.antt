@@ -1,12 +1,12 @@
 -- Places as positions of facets: a search over the run finds the lowest facet and then the lowest position. Assumes nothing.
 use mathlib.Core.Path.{_≡_, sym, ap, _∙_}
-use mathlib.Core.Bool.{Bool, true}
+use mathlib.Core.Bool.{Bool}
 use mathlib.Core.List.{List}
 use Prim.Native.Nat.{ℕ, _+_, _-_, _<_}
 use native.Mathlib.Omega.{arith}
 use native.Mathlib.Decide.{decLt}
 use lib.ListN.{length}
-use Rattle.whole.specs.First.{Nowhere, None, never}
+use Rattle.whole.specs.First.{Nowhere, Lowest}
 use Rattle.tables.specs.Tables.{facets, begin, sides, cornerOf, homeOf, from}
 use Rattle.tables.specs.Size.{Laid}
 use Rattle.tables.specs.Places.{home, home-is, home-rise, corner-at, place-in, place-below}
@@ -46,20 +46,15 @@ early {begins = begins} {p = p} L g q l k h =
     ]
 
 module _ {corners begins : List ℕ} (L : Laid corners begins) (test : ℕ → Bool) where
-  pub flat-hit : {p : ℕ} → None test p → test p ≡ true → p < length corners → At (homeOf begins p) (p - begin begins (homeOf begins p)) ≡ byFacets begins test
-  flat-hit {p} n e l =
-      let o = position L l in
+  pub flat-hit : {p : ℕ} → Lowest test (length corners) p → At (homeOf begins p) (p - begin begins (homeOf begins p)) ≡ byFacets begins test
+  flat-hit {p} w =
+      let o = position L (w .below) in
       let z : p - begin begins (homeOf begins p) ≡ o .at = omega (arith, o .is) in
       ap (At (homeOf begins p)) z ∙ sym (first-is (record {
         facet = o .facet;
-        place = o .side;
-        applies = rw (o .is) e;
-        before = λ q k. unmet _ (omega (arith, o .is));
-        earlier = λ g q k h. unmet _ (early L g q l k h);
+        place = record { below = o .side; holds = rw (o .is) (w .holds); before = λ q k. w .before _ (omega (arith, o .is)) };
+        earlier = λ g q k h. w .before _ (early L g q (w .below) k h);
       }))
-    where
-      unmet : Nowhere test p
-      unmet = never test p (omega (arith, n .upto))
 
   pub flat-none : Nowhere test (length corners) → byFacets begins test ≡ Nothing
   flat-none h = no-place-is (λ f p l k. h _ (place-below L l k))

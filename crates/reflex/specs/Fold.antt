@@ -6,7 +6,7 @@ use Prim.Native.Nat.{ℕ, _+_, _≤_, _<_}
 use native.Mathlib.Omega.{arith}
 use lib.IntN.{ℤ}
 use lib.ListN.{length}
-use Rattle.whole.specs.First.{firstBelow, None, none-0, none-more, found, none}
+use Rattle.whole.specs.First.{firstBelow, NoneYet, yet-0, yet-more, yet-hit, yet-end}
 use Rattle.tables.specs.Tables.{facets, begin, sides, facetOf}
 use Rattle.tables.specs.Places.{part-length, place-below, home}
 use Rattle.edges.specs.Edge.{facetAcross}
@@ -26,20 +26,12 @@ pub record Folding (points : List ℤ) (corners begins : List ℕ) (edges : List
   pub facet-in : f < facets begins
   pub part-is : part ≡ facetOf corners begins f
   pub start-is : start ≡ begin begins f
-  pub upto : p ≤ length part
-  pub none-yet : None (isReflex points corners begins f) p
+  pub yet : NoneYet (isReflex points corners begins f) (sides begins f) p
 
 module _ {points : List ℤ} {corners begins : List ℕ} {edges : List (List ℕ)} {heads : List ℕ} {f : ℕ} {part : List ℕ} {start : ℕ} where
   pub folding-0 : Foldable points corners begins edges heads → f < facets begins → part ≡ facetOf corners begins f → start ≡ begin begins f
       → Folding points corners begins edges heads f part start 0
-  folding-0 T l e s = record {
-    tables = T;
-    facet-in = l;
-    part-is = e;
-    start-is = s;
-    upto = omega arith;
-    none-yet = none-0 (isReflex points corners begins f);
-  }
+  folding-0 T l e s = record { tables = T; facet-in = l; part-is = e; start-is = s; yet = yet-0 }
 
   module _ {p : ℕ} (F : Folding points corners begins edges heads f part start p) where
     pub own-facet : Facet points part
@@ -65,7 +57,7 @@ module _ {points : List ℤ} {corners begins : List ℕ} {edges : List (List ℕ
 
         module _ {t : Bool} (is : t ≡ reflexAt points part other p) where
           pub folding-hit : t ≡ true → p ≡ firstBelow (isReflex points corners begins f) (sides begins f)
-          folding-hit h = found (F .none-yet) (test-is ∙ sym is ∙ h) (rw long at l)
+          folding-hit h = yet-hit (F .yet) (test-is ∙ sym is ∙ h) (rw long at l)
 
           pub folding-more : t ≡ false → Folding points corners begins edges heads f part start (p + 1)
           folding-more h = record {
@@ -73,9 +65,8 @@ module _ {points : List ℤ} {corners begins : List ℕ} {edges : List (List ℕ
             facet-in = F .facet-in;
             part-is = F .part-is;
             start-is = F .start-is;
-            upto = omega arith;
-            none-yet = none-more (F .none-yet) (test-is ∙ sym is ∙ h);
+            yet = yet-more (F .yet) (test-is ∙ sym is ∙ h) (rw long at l);
           }
 
     pub folding-all : length part ≤ p → p ≡ firstBelow (isReflex points corners begins f) (sides begins f)
-    folding-all h = none (F .none-yet) (rw long at (F .upto)) (rw long at h)
+    folding-all h = yet-end (F .yet) (rw long at h)

@@ -6,7 +6,7 @@ use Prim.Native.Nat.{ℕ, _+_, _-_, _≤_, _<_}
 use native.Mathlib.Omega.{arith}
 use lib.ListN.{length}
 use borrow.Author.Tests.{eq-eqb, ne-eqb}
-use Rattle.whole.specs.First.{None, none-0, none-more, any-hit, any-miss}
+use Rattle.whole.specs.First.{Nowhere, nowhere-0, nowhere-more, any-is, any-none}
 use Rattle.whole.specs.Count.{bit, count-but}
 use Rattle.whole.specs.Orbit.{iterate, iterate-more}
 use Rattle.tables.specs.Tables.{mostVertices, mostCorners}
@@ -25,7 +25,7 @@ pub record Turning (corners begins : List ℕ) (edges : List (List ℕ)) (heads 
   pub first : p ≡ start corners v
   pub at : q ≡ iterate (roundOf corners begins) i p
   pub below : q < length corners
-  pub none : None (isBack corners begins p) i
+  pub unmet : Nowhere (isBack corners begins p) i
   pub met : Met corners v (leaves corners v) (i + 1) k
 
 module _ {corners begins : List ℕ} {edges : List (List ℕ)} {heads : List ℕ} (C : Crossed corners begins edges heads) where
@@ -55,13 +55,13 @@ module _ {corners begins : List ℕ} {edges : List (List ℕ)} {heads : List ℕ
         first = ap (λ q. q - 1) (chains .firsts v l);
         at = refl;
         below = omega (arith, begun .on .upto);
-        none = none-0 _;
+        unmet = nowhere-0 _;
         met = met-next begun h;
       }
 
       -- no edge leaves v
       pub turning-none : headAt heads v ≡ 0 → false ≡ broken corners begins v
-      turning-none e = let n = met-all begun (omega arith) in any-miss (none-0 _) (omega arith) (omega arith)
+      turning-none e = let n = met-all begun (omega arith) in sym (any-none _ _ (λ j l. absurd (omega arith)))
 
 module _ {corners begins : List ℕ} {edges : List (List ℕ)} {heads : List ℕ} {v p q k : ℕ} (T : Turning corners begins edges heads v p q k) where
   module _ (h : 0 < k) where
@@ -82,14 +82,14 @@ module _ {corners begins : List ℕ} {edges : List (List ℕ)} {heads : List ℕ
         first = T .first;
         at = next-at;
         below = rw s (step-below (T .crossed .indexed .tables .laid) (T .crossed .paired) (T .below));
-        none = none-more (T .none) (rw (← next-at) (ne-eqb _ _ d));
+        unmet = nowhere-more (T .unmet) (rw (← next-at) (ne-eqb _ _ d));
         met = met-next (T .crossed) (T .met) h;
       }
 
       pub turning-back : r ≡ p → true ≡ broken corners begins v
       turning-back e =
           let c = count-but (leaves corners v) (k - 1) k (omega arith) (eq-eqb _ _ (T .met .on .leads h)) in
-          rw (← T .first) (any-hit (T .none) (eq-eqb _ _ (sym next-at ∙ e)) (omega (arith, T .met .sum)))
+          rw (← T .first) (sym (any-is _ _ (T .i) (omega (arith, T .met .sum)) (eq-eqb _ _ (sym next-at ∙ e))))
 
   pub turning-end : k ≤ 0 → false ≡ broken corners begins v
-  turning-end h = let n = met-all (T .met) h in rw (← T .first) (any-miss (T .none) (omega arith) (omega arith))
+  turning-end h = let n = met-all (T .met) h in rw (← T .first) (sym (any-none _ _ (λ j l. T .unmet j (omega arith))))

@@ -1,8 +1,8 @@
 -- Vectors of whole numbers, their operations shut: outside, all that is used of them are the laws below. Assumes nothing.
-use mathlib.Core.Path.{_≡_, _∙_, ap}
-use lib.IntN.{ℤ, pos, negsuc, _+ℤ_, _*ℤ_, *ℤ-zero}
+use mathlib.Core.Path.{_≡_}
+use lib.IntN.{ℤ, pos, negsuc, _+ℤ_}
 use lib.Signed.{_≤ℤ_, _<ℤ_}
-use Rattle.whole.specs.Solver.{num, neg, _⊕_, _⊗_, _≐_}
+use Rattle.whole.specs.Solver.{num, neg, _⊕_, _≐_}
 use Rattle.whole.specs.Order.{_≼_, _≺_, _≃_, _⇒_, _since_, hyp, by, sq, _⊞_, _⊠_, never, not-le, not-lt}
 use Rattle.whole.specs.Formula.{Ops, ints, exprs}
 use Rattle.space.specs.Vec.{Vec, sub, dot, cross, det as det³, solve³, prove³}

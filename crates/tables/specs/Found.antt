@@ -2,11 +2,10 @@
 use mathlib.Core.Path.{_≡_, refl, sym, _∙_, ap}
 use mathlib.Core.Bool.{Bool, true, false, cond}
 use Prim.Native.Nat.{ℕ, _+_, _≤_, _<_}
-use native.Mathlib.Nat.{le-refl}
 use native.Mathlib.Omega.{arith}
-use borrow.Author.Tests.{lt-ltb, le-ltb, ltb-true, ltb-false}
-use Rattle.whole.specs.First.{firstBelow, anyBelow, pickBelow, Nowhere, Lowest, none-all, never, first-holds, before-first, first-lowest, lowest-first}
-use Rattle.whole.specs.First.{hit, miss, any-none, any-is, NoneYet, yet-0, yet-more}
+use borrow.Author.Tests.{lt-ltb, le-ltb, ltb-true}
+use Rattle.whole.specs.First.{firstBelow, anyBelow, pickBelow, Nowhere, Lowest, first-lowest, lowest-first}
+use Rattle.whole.specs.First.{pick-lowest, pick-nowhere, any-none, any-is, any-false, NoneYet, yet-0, yet-more, hit, miss}
 use Rattle.tables.specs.declared.Found.{Found}
 use Rattle.tables.specs.declared.Found.the-variants.{At, Nothing}
 
@@ -29,9 +28,7 @@ firstPlace n sizes test = pickBelow (somewhere sizes test) n (within sizes test)
 -- the rule applies at (f, p), and at no place before
 pub record First (n : ℕ) (sizes : ℕ → ℕ) (test : ℕ → ℕ → Bool) (f p : ℕ) : Type 0 where
   pub facet : f < n
-  pub place : p < sizes f
-  pub applies : test f p ≡ true
-  pub before : Nowhere (test f) p
+  pub place : Lowest (test f) (sizes f) p
   pub earlier : (g q : ℕ) → g < f → q < sizes g → test g q ≡ false
 
 abbrev pub NoPlace : ℕ → (ℕ → ℕ) → (ℕ → ℕ → Bool) → Type 0
@@ -51,7 +48,7 @@ searched n test = go (anyBelow test n) refl
   where
     go : (t : Bool) → anyBelow test n ≡ t → Searched n test (cond t (At (firstBelow test n) 0) Nothing)
     go true e = found-at (first-lowest test n (ltb-true _ _ e))
-    go false e = found-none (never test n (ltb-false _ _ e))
+    go false e = found-none (any-false test n e)
 
 pub sought : (n : ℕ) (sizes : ℕ → ℕ) (test : ℕ → ℕ → Bool) → Sought n sizes test (firstPlace n sizes test)
 sought n sizes test = go (anyBelow some n) refl
@@ -60,21 +57,18 @@ sought n sizes test = go (anyBelow some n) refl
     some = somewhere sizes test
 
     none : (g : ℕ) → some g ≡ false → Nowhere (test g) (sizes g)
-    none g e = never (test g) (sizes g) (ltb-false _ _ e)
+    none g = any-false (test g) (sizes g)
 
     go : (t : Bool) → anyBelow some n ≡ t → Sought n sizes test (cond t (within sizes test (firstBelow some n)) Nothing)
     go true e =
-        let l = ltb-true _ _ e in
+        let h = first-lowest some n (ltb-true _ _ e) in
         let f = firstBelow some n in
-        let k = ltb-true _ _ (first-holds some n l) in
         place-at (record {
-          facet = l;
-          place = k;
-          applies = first-holds (test f) (sizes f) k;
-          before = before-first (test f) (sizes f);
-          earlier = λ g q b. none g (before-first some n g b) q;
+          facet = h .below;
+          place = first-lowest (test f) (sizes f) (ltb-true _ _ (h .holds));
+          earlier = λ g q b. none g (h .before g b) q;
         })
-    go false e = place-none (λ f p l. none f (never some n (ltb-false _ _ e) f l) p)
+    go false e = place-none (λ f p l. none f (any-false some n e f l) p)
 
 -- a search that found nothing
 pub lowest-none : (n : ℕ) (test : ℕ → Bool) → lowest n test ≡ Nothing → Nowhere test n
@@ -93,20 +87,31 @@ first-none n sizes test = go (sought n sizes test)
 
 -- and the other way: no two answers fit
 pub lowest-is : {n : ℕ} {test : ℕ → Bool} {v : ℕ} → Lowest test n v → lowest n test ≡ At v 0
-lowest-is {n} {test} {v} h = sym (hit (λ u. At u 0) Nothing (none-all test v (h .before)) (h .holds) (h .below))
+lowest-is h = sym (pick-lowest (λ v. At v 0) Nothing h)
 
 pub nowhere-is : {n : ℕ} {test : ℕ → Bool} → Nowhere test n → lowest n test ≡ Nothing
-nowhere-is {n} {test} h = sym (miss (λ v. At v 0) Nothing (none-all test n h) (le-refl n) (le-refl n))
+nowhere-is h = sym (pick-nowhere (λ v. At v 0) Nothing h)
 
 pub first-is : {n : ℕ} {sizes : ℕ → ℕ} {test : ℕ → ℕ → Bool} {f p : ℕ} → First n sizes test f p → firstPlace n sizes test ≡ At f p
-first-is {n} {sizes} {test} {f} {p} h =
-    sym (hit (within sizes test) Nothing (none-all (somewhere sizes test) f (λ g l. any-none (test g) (sizes g) (λ q. h .earlier g q l)))
-    (any-is (test f) (sizes f) p (h .place) (h .applies)) (h .facet))
-    ∙ ap (At f) (sym (lowest-first (record { below = h .place; holds = h .applies; before = h .before })))
+first-is {sizes} {test} {f} {p} h =
+    sym (pick-lowest (within sizes test) Nothing (record {
+      below = h .facet;
+      holds = any-is (test f) (sizes f) p (h .place .below) (h .place .holds);
+      before = λ g l. any-none (test g) (sizes g) (λ q. h .earlier g q l);
+    }))
+    ∙ ap (At f) (sym (lowest-first (h .place)))
 
 pub no-place-is : {n : ℕ} {sizes : ℕ → ℕ} {test : ℕ → ℕ → Bool} → NoPlace n sizes test → firstPlace n sizes test ≡ Nothing
-no-place-is {n} {sizes} {test} h =
-    sym (miss (within sizes test) Nothing (none-all (somewhere sizes test) n (λ f l. any-none (test f) (sizes f) (λ p. h f p l))) (le-refl n) (le-refl n))
+no-place-is {sizes} {test} h = sym (pick-nowhere (within sizes test) Nothing (λ f l. any-none (test f) (sizes f) (λ p. h f p l)))
+
+-- ---- a loop over n vertices or facets that has passed those before v
+
+module _ {n : ℕ} {test : ℕ → Bool} {v : ℕ} (yet : NoneYet test n v) where
+  pub lowest-hit : test v ≡ true → v < n → At v 0 ≡ lowest n test
+  lowest-hit e l = hit yet e l (λ v. At v 0) Nothing
+
+  pub lowest-end : n ≤ v → Nothing ≡ lowest n test
+  lowest-end m = miss yet m (λ v. At v 0) Nothing
 
 -- ---- a loop over n facets, of sizes f places each, that has passed those before f
 
@@ -120,10 +125,10 @@ module _ {n : ℕ} {sizes : ℕ → ℕ} {test : ℕ → ℕ → Bool} {f : ℕ}
   -- p is the first place of facet f at which the rule applies, or their number
   module _ {p : ℕ} (l : f < n) (first : p ≡ firstBelow (test f) (sizes f)) where
     pub free-hit : p < sizes f → At f p ≡ firstPlace n sizes test
-    free-hit h = ap (At f) first ∙ hit (within sizes test) Nothing (free .yet .none) (lt-ltb _ _ (rw first at h)) l
+    free-hit h = ap (At f) first ∙ hit (free .yet) (lt-ltb _ _ (rw first at h)) l (within sizes test) Nothing
 
     pub free-more : sizes f ≤ p → Free n sizes test (f + 1)
     free-more h = record { yet = yet-more (free .yet) (le-ltb _ _ (rw first at h)) l }
 
   pub free-all : n ≤ f → Nothing ≡ firstPlace n sizes test
-  free-all = miss (within sizes test) Nothing (free .yet .none) (free .yet .upto)
+  free-all m = miss (free .yet) m (within sizes test) Nothing

@@ -7,11 +7,11 @@ use native.Mathlib.Nat.{add-zero, le-refl}
 use native.Mathlib.Omega.{arith}
 use native.Mathlib.Numerals.{add-one}
 use native.Mathlib.Decide.{decLt}
-use lib.Dec.{ltb, eqb}
+use lib.Dec.{eqb}
 use lib.ListN.{length, getD, drop, length-take, length-drop}
 use lib.Seq.{getD-take, getD-drop}
 use borrow.Author.Tests.{lt-ltb, le-ltb, eqb-true, eqb-false}
-use Rattle.whole.specs.First.{none-all, found}
+use Rattle.whole.specs.First.{lowest-first}
 use Rattle.tables.specs.Tables.{leastVertices, mostVertices, mostCorners, facets, begin, end, sides, facetOf, cornerOf, homeOf, nextOf, from}
 use Rattle.tables.specs.Size.{Laid}
 
@@ -62,9 +62,11 @@ module _ {corners begins : List ℕ} (L : Laid corners begins) where
   pub home-is : {f p : ℕ} → In begins f p → f ≡ homeOf begins p
   unfolding homeOf
   home-is {f} {p} i =
-      found (none-all (λ f. ltb p (end begins f)) f
-      (λ k l. le-ltb p (getD begins (k + 1) 0) (before l)))
-      (lt-ltb _ _ (i .high)) (omega (arith, i .facet))
+      lowest-first (record {
+        below = omega (arith, i .facet);
+        holds = lt-ltb _ _ (i .high);
+        before = λ k l. le-ltb p (getD begins (k + 1) 0) (before l);
+      })
     where
       before : {k : ℕ} → k < f → getD begins (k + 1) 0 ≤ p
       before {k} l =

@@ -3,13 +3,13 @@ use mathlib.Core.Path.{_≡_, refl, sym, _∙_}
 use mathlib.Core.Logic.{_⊎_, inl, inr}
 use mathlib.Core.Bool.{Bool, true, false, not, _&&_, _||_, or-true, true≢false}
 use mathlib.Core.List.{List, [], _∷_}
-use Prim.Native.Nat.{ℕ, zero, suc, _+_, _≤_, _<_}
+use Prim.Native.Nat.{ℕ, zero, suc, _≤_, _<_}
 use native.Mathlib.Omega.{arith}
 use native.Mathlib.Decide.{decLt}
-use lib.Dec.{eqb, ltb}
+use lib.Dec.{eqb}
 use lib.ListN.{getD}
-use borrow.Author.Tests.{eqb-true, eq-eqb, ne-eqb, eqb-false, ltb-true, lt-ltb, not-true, not-false}
-use Rattle.whole.specs.First.{firstBelow, anyBelow, any-is, first-holds, first-le, never, none-all}
+use borrow.Author.Tests.{eqb-true, eq-eqb, ltb-true, not-true, not-false}
+use Rattle.whole.specs.First.{firstBelow, anyBelow, any-is, first-holds, never}
 use Rattle.whole.specs.Count.{countBelow, count-but, count-le, count-less, both}
 
 -- a table of the values of f below m

@@ -1,9 +1,9 @@
 -- A loop that looks for the second place at which a test holds: what it has seen is whether there was a first. Assumes nothing.
-use mathlib.Core.Path.{_≡_, sym, _∙_}
+use mathlib.Core.Path.{_≡_, sym}
 use mathlib.Core.Bool.{Bool, true, false, and-false, or-false}
-use Prim.Native.Nat.{ℕ, _+_, _<_, _≤_, zero-le}
+use Prim.Native.Nat.{ℕ, _+_, _<_, zero-le}
 use borrow.Author.Tests.{le-ltb}
-use Rattle.whole.specs.First.{firstBelow, anyBelow, any-more, NoneYet, yet-0, yet-more, yet-hit, yet-end}
+use Rattle.whole.specs.First.{firstBelow, anyBelow, any-more, NoneYet, yet-0, yet-more, yet-hit}
 use Rattle.once_round.specs.Second.{again}
 
 pub record Seen (f : ℕ → Bool) (n : ℕ) (seen : Bool) (i : ℕ) : Type 0 where

@@ -18,7 +18,10 @@ push-requires : tie.Need-push-requires Inv-loop μ-loop
 push-requires c κs = let (crossed, fresh) = c .before .before .before .before .pre in reaching-pushing crossed fresh
 
 loop-holds : tie.Need-loop-holds Inv-loop μ-loop
-loop-holds c = let (crossed, fresh) = c .before .before .before .before .before .pre in reaching-0 crossed fresh (c .push .ensures)
+loop-holds c =
+    let p = c .before in
+    let (crossed, fresh) = p .before .before .before .before .pre in
+    reaching-0 crossed fresh (c .push .ensures)
 
 read : tie.Need-element-copy-out-wide Inv-loop μ-loop
 read c = reaching-small (c .before .loop .inv) (omega arith)

@@ -48,7 +48,7 @@ last-edge-spec =
     Inv-loop
     μ-loop
     (λ c κs. search needs)
-    (λ c κs. rw (c .wide .ensures .is) (c .before .before .before .pre .1))
+    (λ c κs. let (leaving, small) = c .before .before .before .pre in rw (c .wide .ensures .is) small)
     loop-holds
     (λ c. search needs)
     (λ c κs. place-small (c .before .loop .inv) (omega arith))

@@ -31,8 +31,7 @@ loop-holds : tie.Need-loop-holds Inv-loop μ-loop
 loop-holds c =
     let r = c .before .before .before in
     let f = r .before .before .before .pre in
-    let e = not-in-line _ _ (sym (c .before .in-line .ensures) ∙ c .if1 .left) in
-    record { facet = f; later = omega arith; yet = record { none = e; upto = f .some } }
+    record { facet = f; later = omega arith; yet = not-in-line _ _ (f .some) (sym (c .before .in-line .ensures) ∙ c .if1 .left) }
 
 side-at-requires : tie.Need-side-at-requires Inv-loop μ-loop
 side-at-requires c κs =

@@ -12,7 +12,7 @@ use Rattle.load.proofs.load.Tie as tie
 
 module _ (c : tie.After-read-tape) where
   abbrev lent : tie.Start
-  lent = c .before .before .before .before .before
+  lent = let a = c .before .before in a .before .before .before
 
   -- the tables that are lent have room
   has-room : noRoom (length (lent .args .points .now)) (length (lent .args .corners .now)) (length (lent .args .begins .now)) ≡ false

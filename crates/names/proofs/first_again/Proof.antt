@@ -1,15 +1,15 @@
 -- `names::first_again` meets its contract. Assumes nothing.
 use borrow.Author.Needs.{needs}
 use borrow.Author.Tests.{lt-ltb, le-ltb}
-use Prim.Native.Nat.{_-_, _≤_}
+use Prim.Native.Nat.{_-_}
 use lib.ListN.{length}
-use Rattle.whole.specs.First.{None, none-0, none-more, found, none}
+use Rattle.whole.specs.First.{NoneYet, yet-0, yet-more, yet-hit, yet-end}
 use Rattle.names.specs.Rules.{again}
 use Rattle.names.proofs.first_again.Statement.{statement}
 use Rattle.names.proofs.first_again.Tie as tie
 
 abbrev Inv-loop : tie.InvT-loop
-Inv-loop part p₀ p = (p ≤ length part) × None (again part) p
+Inv-loop part p₀ p = NoneYet (again part) (length part) p
 
 abbrev μ-loop : tie.MeasureT-loop
 μ-loop part p₀ p = length part - p
@@ -17,12 +17,12 @@ abbrev μ-loop : tie.MeasureT-loop
 returns : tie.Need-returns Inv-loop μ-loop
 returns c =
     let w = c .before in
-    found (w .before .before .before .loop .inv .1) (rw (← w .first-at .ensures) (lt-ltb _ _ (c .if1 .taken))) (search needs)
+    yet-hit (w .before .before .before .loop .inv) (rw (← w .first-at .ensures) (lt-ltb _ _ (c .if1 .taken))) (search needs)
 
 loop-again : tie.Need-loop-again Inv-loop μ-loop
 loop-again c =
     let w = c .before in
-    (search needs, none-more (w .before .before .before .loop .inv .1) (rw (← w .first-at .ensures) (le-ltb _ _ (c .if1 .left))))
+    yet-more (w .before .before .before .loop .inv) (rw (← w .first-at .ensures) (le-ltb _ _ (c .if1 .left))) (search needs)
 
 pub first-again-spec : {M : Type 1} → statement M
 first-again-spec =
@@ -30,7 +30,7 @@ first-again-spec =
     (tie.spec
     Inv-loop
     μ-loop
-    (λ c. (search needs, none-0 _))
+    (λ c. yet-0)
     (λ c. search needs)
     (λ c. search needs)
     (λ c κs. search needs)
@@ -38,4 +38,4 @@ first-again-spec =
     (λ c. search needs)
     (λ c. search needs)
     loop-again
-    (λ c. none (c .before .loop .inv .1) (search needs) (search needs)))
+    (λ c. yet-end (c .before .loop .inv) (search needs)))

@@ -2,15 +2,15 @@
 use borrow.Author.Needs.{needs}
 use mathlib.Core.Path.{sym, _∙_}
 use native.Mathlib.Omega.{arith}
-use Prim.Native.Nat.{_-_, _≤_}
+use Prim.Native.Nat.{_-_}
 use lib.ListN.{length, getD}
-use Rattle.whole.specs.First.{None, none-0, none-more, any-hit, any-miss}
+use Rattle.whole.specs.First.{NoneYet, yet-0, yet-more, any-hit, any-miss}
 use Rattle.reflex.specs.Rules.{isNotInside}
 use Rattle.reflex.proofs.some_not_inside.Statement.{statement}
 use Rattle.reflex.proofs.some_not_inside.Tie as tie
 
 abbrev Inv-loop : tie.InvT-loop
-Inv-loop points part other a b r₀ r = (r ≤ length other) × None (λ r. isNotInside points part a b (getD other r 0)) r
+Inv-loop points part other a b r₀ r = NoneYet (λ r. isNotInside points part a b (getD other r 0)) (length other) r
 
 abbrev μ-loop : tie.MeasureT-loop
 μ-loop points part other a b r₀ r = length other - r
@@ -24,14 +24,12 @@ is-not-inside-requires c κs =
 returns : tie.Need-returns Inv-loop μ-loop
 returns c =
     let t = c .before in
-    let (upto, none) = t .before .before .before .loop .inv in
-    any-hit none (sym (t .is-not-inside .ensures) ∙ c .if1 .taken) (omega arith)
+    any-hit (t .before .before .before .loop .inv) (sym (t .is-not-inside .ensures) ∙ c .if1 .taken) (omega arith)
 
 loop-again : tie.Need-loop-again Inv-loop μ-loop
 loop-again c =
     let t = c .before in
-    let (upto, none) = t .before .before .before .loop .inv in
-    (omega arith, none-more none (sym (t .is-not-inside .ensures) ∙ c .if1 .left))
+    yet-more (t .before .before .before .loop .inv) (sym (t .is-not-inside .ensures) ∙ c .if1 .left) (omega arith)
 
 pub some-not-inside-spec : {M : Type 1} → statement M
 some-not-inside-spec =
@@ -39,7 +37,7 @@ some-not-inside-spec =
     (tie.spec
     Inv-loop
     μ-loop
-    (λ c. (omega arith, none-0 _))
+    (λ c. yet-0)
     (λ c. search needs)
     (λ c. search needs)
     is-not-inside-requires
@@ -47,4 +45,4 @@ some-not-inside-spec =
     (λ c. omega arith)
     (λ c. omega arith)
     loop-again
-    (λ c. let (upto, none) = c .before .loop .inv in any-miss none (omega arith) (omega arith)))
+    (λ c. any-miss (c .before .loop .inv) (omega arith)))

@@ -2,15 +2,14 @@
 use borrow.Author.Needs.{needs}
 use mathlib.Core.Path.{sym, _∙_}
 use native.Mathlib.Omega.{arith}
-use Prim.Native.Nat.{_-_, _≤_}
-use lib.ListN.{length}
-use Rattle.whole.specs.First.{None, none-0, none-more, any-hit, any-miss}
+use Prim.Native.Nat.{_-_}
+use Rattle.whole.specs.First.{NoneYet, yet-0, yet-more, any-hit, any-miss}
 use Rattle.tables.specs.Size.{wrongSides}
 use Rattle.tables.proofs.some_wrong_sides.Statement.{statement}
 use Rattle.tables.proofs.some_wrong_sides.Tie as tie
 
 abbrev Inv-loop : tie.InvT-loop
-Inv-loop begins n f₀ f = (f ≤ n) × None (wrongSides begins) f
+Inv-loop begins n f₀ f = NoneYet (wrongSides begins) n f
 
 abbrev μ-loop : tie.MeasureT-loop
 μ-loop begins n f₀ f = n - f
@@ -22,10 +21,10 @@ some-wrong-sides-spec =
     Inv-loop
     μ-loop
     (λ c. search needs)
-    (λ c. (search needs, none-0 _))
+    (λ c. yet-0)
     (λ c κs. omega arith)
-    (λ c. any-hit (c .before .before .before .loop .inv .1) (sym (c .before .wrong-sides .ensures) ∙ c .if1 .taken) (omega arith))
+    (λ c. any-hit (c .before .before .before .loop .inv) (sym (c .before .wrong-sides .ensures) ∙ c .if1 .taken) (omega arith))
     (λ c. search needs)
     (λ c. search needs)
-    (λ c. (search needs, none-more (c .before .before .before .loop .inv .1) (sym (c .before .wrong-sides .ensures) ∙ c .if1 .left)))
-    (λ c. any-miss (c .before .loop .inv .1) (omega arith) (omega arith)))
+    (λ c. yet-more (c .before .before .before .loop .inv) (sym (c .before .wrong-sides .ensures) ∙ c .if1 .left) (search needs))
+    (λ c. any-miss (c .before .loop .inv) (omega arith)))

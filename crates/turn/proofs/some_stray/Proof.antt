@@ -24,7 +24,7 @@ strays-requires c κs =
 returns : tie.Need-returns Inv-loop μ-loop
 returns c =
     let s = c .before in
-    any-hit (s .before .before .before .loop .inv .none) (sym (s .strays .ensures) ∙ c .if1 .taken) (omega arith)
+    any-hit (s .before .before .before .loop .inv) (sym (s .strays .ensures) ∙ c .if1 .taken) (omega arith)
 
 loop-again : tie.Need-loop-again Inv-loop μ-loop
 loop-again c =
@@ -45,4 +45,4 @@ some-stray-spec =
     (λ c. omega arith)
     (λ c. omega arith)
     loop-again
-    (λ c. any-miss (c .before .loop .inv .none) (omega arith) (omega arith)))
+    (λ c. any-miss (c .before .loop .inv) (omega arith)))

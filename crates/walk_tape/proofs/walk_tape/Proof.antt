@@ -45,7 +45,7 @@ walk-tape-spec =
     (λ c. parts (c .before .before .before) .corners .0)
     (λ c. parts (c .before .before .before .before) .corners .1)
     (λ c. parts (c .before .before .before .before) .begins .0)
-    (λ c. parts (c .before .before .before .before .before) .begins .1)
+    (λ c. let b = c .before in parts (b .before .before .before .before) .begins .1)
     (λ c. search needs)
     (λ c κs. tt)
     returns-2)
