@@ -7,7 +7,7 @@ use native.Mathlib.Omega.{arith}
 use lib.ListN.{length}
 use Rattle.whole.specs.Rounds as Rounds
 use Rattle.whole.specs.Rounds.{at, first, arc}
-use Rattle.whole.specs.Flood.{entryAt, marked, Fresh, Queue, Pushing, Push, Spread, Flood, Flooded, SameArcs, queue-0, tail-le, pushing, push}
+use Rattle.whole.specs.Flood.{entryAt, marked, Unmarked, Queue, Pushing, Push, Spread, Flood, Flooded, SameArcs, queue-0, tail-le, pushing, push}
 use Rattle.whole.specs.Flood.{spread-0, spread-more, flood-0, flood-more, flood-end, flooded-same}
 use Rattle.tables.specs.Tables.{mostFacets, mostCorners, facets, begin, end, homeOf}
 use Rattle.tables.specs.Places.{In, home-is as home-of, in-facet}
@@ -137,7 +137,7 @@ pub record Reaching (corners begins : List ℕ) (edges : List (List ℕ)) (heads
   pub flood : Flood mostFacets (runLength begins) (facets begins) (homeAt edges) (facetAcrossAt edges) marks queue head tail
 
 module _ {corners begins : List ℕ} {edges : List (List ℕ)} {heads : List ℕ} (C : Crossed corners begins edges heads) {marks queue : List ℕ}
-    (b : Fresh mostFacets marks queue) where
+    (b : Unmarked mostFacets marks queue) where
   queued-0 : Queued begins edges marks queue 0
   queued-0 = queue-0 (ReachedAt begins edges) (few C) b
 

@@ -1,6 +1,6 @@
 // Number 8, APART: every facet is reached from facet 0 across edges.
 ghost use mathlib.Core.Path.{_≡_};
-ghost use Rattle.whole.specs.Flood.{Fresh, Pushing, Push};
+ghost use Rattle.whole.specs.Flood.{Unmarked, Pushing, Push};
 ghost use Rattle.tables.specs.Tables.{mostFacets, end};
 ghost use Rattle.pair.specs.Across.{Crossed};
 ghost use Rattle.apart.specs.Apart.{apart};
@@ -60,7 +60,7 @@ fn reach(
     queue: &mut Queue,
 )
     requires { ⌜ Crossed (now corners) (now begins) (now edges) (now heads) ⌝ }
-    requires { ⌜ Fresh mostFacets (now marks) (now queue) ⌝ }
+    requires { ⌜ Unmarked mostFacets (now marks) (now queue) ⌝ }
     ensures { λ _. ⌜ ReachMarks (now (corners .entry)) (now (begins .entry)) (now (marks .exit)) ⌝ }
 {
     let mut tail = push(marks, queue, 0, 0);

@@ -18,8 +18,8 @@ pub extern "C" fn solid_judge(
     begins: &[u16],
     out: &mut [i64],
 ) -> u16
-    ensures { λ r. ⌜ r ≡ judged (now (points .entry)) (now (corners .entry)) (now (begins .entry)) .number ⌝ }
-    ensures { λ _. ⌜ now (out .exit) ≡ noted (places (judged (now (points .entry)) (now (corners .entry)) (now (begins .entry)))) (now (out .entry)) ⌝ }
+    ensures number { λ r. ⌜ r ≡ judged (now (points .entry)) (now (corners .entry)) (now (begins .entry)) .number ⌝ }
+    ensures out { λ _. ⌜ now (out .exit) ≡ noted (places (judged (now (points .entry)) (now (corners .entry)) (now (begins .entry)))) (now (out .entry)) ⌝ }
 {
     notes::note_answer(out, judge::judge(points, corners, begins))
 }
@@ -37,11 +37,11 @@ pub extern "C" fn solid_walk(
     trail: &mut [u16],
     out: &mut [i64],
 ) -> u16
-    ensures { λ r. ⌜ r ≡
+    ensures number { λ r. ⌜ r ≡
         walked (now (points .entry)) (now (corners .entry)) (now (begins .entry)) (direction dx dy dz) start (now (trail .entry)) .answer .number ⌝ }
-    ensures { λ _. ⌜ now (trail .exit) ≡
+    ensures trail { λ _. ⌜ now (trail .exit) ≡
         trailAfter (now (points .entry)) (now (corners .entry)) (now (begins .entry)) (direction dx dy dz) start (now (trail .entry)) ⌝ }
-    ensures { λ _. ⌜ now (out .exit) ≡
+    ensures out { λ _. ⌜ now (out .exit) ≡
         noted (course (walked (now (points .entry)) (now (corners .entry)) (now (begins .entry)) (direction dx dy dz) start (now (trail .entry))))
         (now (out .entry)) ⌝ }
 {
@@ -55,8 +55,8 @@ pub extern "C" fn solid_walk(
 // The judge of an outline. `out` gets the place or the count, and the number is returned.
 #[no_mangle]
 pub extern "C" fn solid_outline(points: &[i32], out: &mut [i64]) -> u16
-    ensures { λ r. ⌜ r ≡ judgedOutline (now (points .entry)) .number ⌝ }
-    ensures { λ _. ⌜ now (out .exit) ≡ noted (place (judgedOutline (now (points .entry)))) (now (out .entry)) ⌝ }
+    ensures number { λ r. ⌜ r ≡ judgedOutline (now (points .entry)) .number ⌝ }
+    ensures out { λ _. ⌜ now (out .exit) ≡ noted (place (judgedOutline (now (points .entry)))) (now (out .entry)) ⌝ }
 {
     notes::note_verdict(out, outline::judge_outline(points))
 }
@@ -70,11 +70,11 @@ pub extern "C" fn solid_read_tape(
     begins: &mut [u16],
     out: &mut [i64],
 ) -> u16
-    ensures { λ r. ⌜ r ≡ answerNumber (reading (now (tape .entry)) (now (points .entry)) (now (corners .entry)) (now (begins .entry))) ⌝ }
-    ensures { λ _. ⌜ now (points .exit) ≡ pointsAfter (now (tape .entry)) (now (points .entry)) (now (corners .entry)) (now (begins .entry)) ⌝ }
-    ensures { λ _. ⌜ now (corners .exit) ≡ cornersAfter (now (tape .entry)) (now (points .entry)) (now (corners .entry)) (now (begins .entry)) ⌝ }
-    ensures { λ _. ⌜ now (begins .exit) ≡ beginsAfter (now (tape .entry)) (now (points .entry)) (now (corners .entry)) (now (begins .entry)) ⌝ }
-    ensures { λ _. ⌜ now (out .exit) ≡
+    ensures number { λ r. ⌜ r ≡ answerNumber (reading (now (tape .entry)) (now (points .entry)) (now (corners .entry)) (now (begins .entry))) ⌝ }
+    ensures points { λ _. ⌜ now (points .exit) ≡ pointsAfter (now (tape .entry)) (now (points .entry)) (now (corners .entry)) (now (begins .entry)) ⌝ }
+    ensures corners { λ _. ⌜ now (corners .exit) ≡ cornersAfter (now (tape .entry)) (now (points .entry)) (now (corners .entry)) (now (begins .entry)) ⌝ }
+    ensures begins { λ _. ⌜ now (begins .exit) ≡ beginsAfter (now (tape .entry)) (now (points .entry)) (now (corners .entry)) (now (begins .entry)) ⌝ }
+    ensures out { λ _. ⌜ now (out .exit) ≡
         noted (counts (reading (now (tape .entry)) (now (points .entry)) (now (corners .entry)) (now (begins .entry)))) (now (out .entry)) ⌝ }
 {
     notes::note_reading(out, reader::read_tape(tape, points, corners, begins))
@@ -89,9 +89,9 @@ pub extern "C" fn solid_write_tape(
     buffer: &mut [u8],
     out: &mut [i64],
 ) -> u16
-    ensures { λ r. ⌜ r ≡ written (now (points .entry)) (now (corners .entry)) (now (begins .entry)) (now (buffer .entry)) .number ⌝ }
-    ensures { λ _. ⌜ now (buffer .exit) ≡ bufferAfter (now (points .entry)) (now (corners .entry)) (now (begins .entry)) (now (buffer .entry)) ⌝ }
-    ensures { λ _. ⌜ now (out .exit) ≡
+    ensures number { λ r. ⌜ r ≡ written (now (points .entry)) (now (corners .entry)) (now (begins .entry)) (now (buffer .entry)) .number ⌝ }
+    ensures buffer { λ _. ⌜ now (buffer .exit) ≡ bufferAfter (now (points .entry)) (now (corners .entry)) (now (begins .entry)) (now (buffer .entry)) ⌝ }
+    ensures out { λ _. ⌜ now (out .exit) ≡
         noted (places (written (now (points .entry)) (now (corners .entry)) (now (begins .entry)) (now (buffer .entry)))) (now (out .entry)) ⌝ }
 {
     notes::note_answer(out, writer::write_tape(points, corners, begins, buffer))

@@ -15,16 +15,16 @@ use Rattle.tape.specs.Whole.{Facets, place-0, place-more, corners-more, length-
 
 -- ---- the first n numbers of a tray, stored from c on
 
-pub record TrayStoring (tray : List ℕ) (c n : ℕ) (old new : List ℕ) (k : ℕ) : Type 0 where
+pub record TraySoFar (tray : List ℕ) (c n : ℕ) (old new : List ℕ) (k : ℕ) : Type 0 where
   pub upto : k ≤ n
   pub long : length new ≡ length old
   pub so-far : new ≡ sets old c (take k tray)
 
-pub store-0 : (tray : List ℕ) (c n : ℕ) (old : List ℕ) → TrayStoring tray c n old old 0
+pub store-0 : (tray : List ℕ) (c n : ℕ) (old : List ℕ) → TraySoFar tray c n old old 0
 store-0 tray c n old = record { upto = omega arith; long = refl; so-far = refl }
 
-pub store-more : {tray old new : List ℕ} {c n k : ℕ} → TrayStoring tray c n old new k → n ≤ length tray → k < n
-    → TrayStoring tray c n old (set new (c + k) (getD tray k 0)) (k + 1)
+pub store-more : {tray old new : List ℕ} {c n k : ℕ} → TraySoFar tray c n old new k → n ≤ length tray → k < n
+    → TraySoFar tray c n old (set new (c + k) (getD tray k 0)) (k + 1)
 store-more {tray} {old} {new} {c} {n} {k} t h l =
     let b : k < length tray = omega arith in
     let m : length (take k tray) ≡ k = length-take-le k tray (omega arith) in
@@ -34,7 +34,7 @@ store-more {tray} {old} {new} {c} {n} {k} t h l =
       so-far = rw (add-one, take-suc tray k 0 b, sets-append (take k tray) (getD tray k 0 ∷ []) old c, m, ← t .so-far);
     }
 
-pub store-all : {tray old new : List ℕ} {c n k : ℕ} → TrayStoring tray c n old new k → n ≤ k → new ≡ sets old c (take n tray)
+pub store-all : {tray old new : List ℕ} {c n k : ℕ} → TraySoFar tray c n old new k → n ≤ k → new ≡ sets old c (take n tray)
 store-all {tray} {old} {new} {c} {n} {k} t l = let e : k ≡ n = omega (arith, t .upto) in rw e at (t .so-far)
 
 -- ---- facets

@@ -34,8 +34,8 @@ fn store(corners: &mut [u16], c: usize, tray: &[u16], n: usize)
 // The corners and the begins of n facets' records from `from` on.
 pub fn fill_facets(tape: &[u8], from: usize, corners: &mut [u16], begins: &mut [u16], n: usize)
     requires { ⌜ Fillable (now tape) from n (now corners) (now begins) ⌝ }
-    ensures { λ _. ⌜ now (corners .exit) ≡ over (cornersAt (now (tape .entry)) from n) (now (corners .entry)) ⌝ }
-    ensures { λ _. ⌜ now (begins .exit) ≡ over (beginsAt (now (tape .entry)) from (n + 1)) (now (begins .entry)) ⌝ }
+    ensures corners { λ _. ⌜ now (corners .exit) ≡ over (cornersAt (now (tape .entry)) from n) (now (corners .entry)) ⌝ }
+    ensures begins { λ _. ⌜ now (begins .exit) ≡ over (beginsAt (now (tape .entry)) from (n + 1)) (now (begins .entry)) ⌝ }
 {
     let mut tray = [0u16; tables::MOST_SIDES];
     let mut at = from;

@@ -12,8 +12,11 @@ pub const ACROSS: usize = 2;
 
 const BACK: usize = 3;
 
+// How many entries a row of the index has.
+pub const ENTRIES: usize = 4;
+
 // A row for each place of the run: its facet, where its edge ends, the place across, the link to the place before it in its chain.
-pub type Edges = [[u16; 4]; tables::MOST_CORNERS];
+pub type Edges = [[u16; ENTRIES]; tables::MOST_CORNERS];
 
 // For each vertex the link to the last place that leaves it: one more than the place, or 0.
 pub type Heads = [u16; tables::MOST_VERTICES];

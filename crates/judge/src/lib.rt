@@ -70,7 +70,7 @@ pub fn judge_with_index(
 pub fn judge(points: &[i32], corners: &[u16], begins: &[u16]) -> answers::Answer
     ensures { λ r. ⌜ r ≡ judged (now (points .entry)) (now (corners .entry)) (now (begins .entry)) ⌝ }
 {
-    let mut edges = [[0u16; 4]; tables::MOST_CORNERS];
+    let mut edges = [[0u16; index::ENTRIES]; tables::MOST_CORNERS];
     let mut heads = [0u16; tables::MOST_VERTICES];
     judge_with_index(points, corners, begins, &mut edges, &mut heads)
 }

@@ -21,17 +21,17 @@ pub record PutsPoint (rest : List ℕ) (x y z : ℤ) : Type 0 where
   pub fits-z : SFits w16 z
 
 -- the numbers of a body while they are stored: the first k
-pub record BodyStoring (numbers old new : List ℕ) (k : ℕ) : Type 0 where
+pub record BodySoFar (numbers old new : List ℕ) (k : ℕ) : Type 0 where
   pub upto : k ≤ length numbers
   pub long : length new ≡ length old
   pub so-far : new ≡ sets old 1 (packed (take k numbers))
 
-pub body-0 : (numbers old : List ℕ) → BodyStoring numbers old old 0
+pub body-0 : (numbers old : List ℕ) → BodySoFar numbers old old 0
 unfolding packed
 body-0 numbers old = record { upto = omega arith; long = refl; so-far = refl }
 
-pub body-more : {numbers old new next : List ℕ} {k : ℕ} → BodyStoring numbers old new k → k < length numbers
-    → next ≡ sets new (1 + 2 * k) (bytesOf 2 (getD numbers k 0)) → BodyStoring numbers old next (k + 1)
+pub body-more : {numbers old new next : List ℕ} {k : ℕ} → BodySoFar numbers old new k → k < length numbers
+    → next ≡ sets new (1 + 2 * k) (bytesOf 2 (getD numbers k 0)) → BodySoFar numbers old next (k + 1)
 body-more {numbers} {old} {new} {next} {k} t l e =
     let n : length (packed (take k numbers)) ≡ 2 * k =
     length-packed (take k numbers) ∙ ap (λ (j : ℕ). 2 * j) (length-take-le k numbers (omega arith)) in
@@ -42,7 +42,7 @@ body-more {numbers} {old} {new} {next} {k} t l e =
       so-far = e ∙ rw (packed-more numbers k l, joined, n, ← t .so-far);
     }
 
-pub body-all : {numbers old new : List ℕ} {k : ℕ} → BodyStoring numbers old new k → length numbers ≤ k → new ≡ sets old 1 (packed numbers)
+pub body-all : {numbers old new : List ℕ} {k : ℕ} → BodySoFar numbers old new k → length numbers ≤ k → new ≡ sets old 1 (packed numbers)
 body-all {numbers} {old} {new} {k} t l = let e : k ≡ length numbers = omega (arith, t .upto) in t .so-far ∙ rw (e, take-length)
 
 -- a byte of kind and then a body of numbers

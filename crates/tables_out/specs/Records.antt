@@ -11,7 +11,7 @@ use Rattle.tables.specs.Size.{Laid}
 use Rattle.tables.specs.Places.{end-in-run, sides-few, sides-some, part-length}
 use Rattle.whole.specs.Over.{over, window, back}
 use Rattle.tape.specs.Records.{bytes, facet, pointOf, pointBytes, facetBytes, Fits16, divided, length-packed, length-points, length-facets}
-use Rattle.tape.specs.Storing.{Storing, storing-0, storing-handed}
+use Rattle.tape.specs.SoFar.{SoFar, so-far-0, so-far-handed}
 
 -- ---- points
 
@@ -24,16 +24,16 @@ pub record PutsPoints (points : List ℤ) (buffer : List ℕ) : Type 0 where
 
 pub record PointTurn (points : List ℤ) (old new : List ℕ) (v : ℕ) : Type 0 where
   pub asked : PutsPoints points old
-  pub storing : Storing (λ v. bytes (pointOf points v)) (vertices points) old new v
+  pub so-far : SoFar (λ v. bytes (pointOf points v)) (vertices points) old new v
 
 pub point-0 : {points : List ℤ} {buffer : List ℕ} → PutsPoints points buffer → PointTurn points buffer buffer 0
-point-0 {points} {buffer} p = record { asked = p; storing = storing-0 buffer }
+point-0 {points} {buffer} p = record { asked = p; so-far = so-far-0 buffer }
 
 pub point-more : {points : List ℤ} {old new rest : List ℕ} {v : ℕ} → PointTurn points old new v → v < vertices points
     → rest ≡ over (bytes (pointOf points v)) (window new (7 * v)) → PointTurn points old (back new (7 * v) rest) (v + 1)
 point-more {points} {old} {new} {rest} {v} t l e = record {
   asked = t .asked;
-  storing = storing-handed (t .storing) (7 * v) l e (length-points points v) (rw length-packed (omega (arith, t .asked .room)));
+  so-far = so-far-handed (t .so-far) (7 * v) l e (length-points points v) (rw length-packed (omega (arith, t .asked .room)));
 }
 
 -- ---- facets
@@ -48,10 +48,10 @@ pub record PutsFacets (corners begins buffer : List ℕ) : Type 0 where
 pub record FacetTurn (corners begins old new : List ℕ) (at f : ℕ) : Type 0 where
   pub asked : PutsFacets corners begins old
   pub here : at ≡ f + 2 * begin begins f
-  pub storing : Storing (λ f. bytes (facet (facetOf corners begins f))) (facets begins) old new f
+  pub so-far : SoFar (λ f. bytes (facet (facetOf corners begins f))) (facets begins) old new f
 
 pub facet-0 : {corners begins buffer : List ℕ} → PutsFacets corners begins buffer → FacetTurn corners begins buffer buffer 0 0
-facet-0 {corners} {begins} {buffer} p = record { asked = p; here = omega (arith, p .laid .start); storing = storing-0 buffer }
+facet-0 {corners} {begins} {buffer} p = record { asked = p; here = omega (arith, p .laid .start); so-far = so-far-0 buffer }
 
 -- the part of this turn's facet, whose record starts at `at`
 pub record WritesFacet (corners begins part : List ℕ) (at f : ℕ) : Type 0 where
@@ -83,5 +83,5 @@ module _ {corners begins old new : List ℕ} {at f : ℕ} (t : FacetTurn corners
       record {
         asked = t .asked;
         here = w .next;
-        storing = storing-handed (t .storing) at l e′ before (rw length-packed (omega (arith, w .inside, t .asked .room)));
+        so-far = so-far-handed (t .so-far) at l e′ before (rw length-packed (omega (arith, w .inside, t .asked .room)));
       }

@@ -4,5 +4,5 @@ pub mod Records
 pub mod Tape
 pub mod Reading
 pub mod Look
-pub mod Storing
+pub mod SoFar
 pub mod Whole

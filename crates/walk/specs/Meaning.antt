@@ -50,7 +50,7 @@ module _ (points : List ℤ) (corners begins : List ℕ) (d : Direction) (start 
   abbrev Outcome : Walked → List ℕ → Type 0
   Outcome r t = (r ≡ walked points corners begins d start trail) × (t ≡ trailAfter points corners begins d start trail)
 
-  refused-by : {n : ℕ} → Accepted → fromStart points corners begins d start trail ≡ suc n → Outcome (halted (refused (suc n))) trail
+  refused-by : {n : ℕ} → Accepted → fromStart points corners begins d start trail ≡ refused (suc n) → Outcome (halted (refused (suc n))) trail
   unfolding walked trailAfter
   refused-by {n} e f = let z = ne-eqb (suc n) 0 (λ q. omega arith) in (rw (e, f, z), rw (e, f, z))
 

@@ -24,21 +24,21 @@ abbrev pub arrived : Standing → Walked
 arrived s = record { answer = passed; vertex = s .spot .vertex; height = s .spot .height; moves = s .moves }
 
 module _ (points : List ℤ) (corners begins : List ℕ) (d : Direction) (start : ℕ) (trail : List ℕ) where
-  -- "13 START, start is V or more; 14 DIRECTION, a part outside -32,767 to 32,767; 15 TRAIL, fewer than V entries"; 0 where none applies
-  abbrev pub fromStart : ℕ
-  fromStart = cond (leb (vertices points) start) 13 (cond (isWrong d) 14 (cond (ltb (length trail) (vertices points)) 15 0))
+  -- "13 START, start is V or more; 14 DIRECTION, a part outside -32,767 to 32,767; 15 TRAIL, fewer than V entries"
+  abbrev pub fromStart : Answer
+  fromStart = cond (leb (vertices points) start) (refused 13) (cond (isWrong d) (refused 14) (cond (ltb (length trail) (vertices points)) (refused 15) passed))
 
   -- "Refusals in this order: 1 to 12 as the judge gives", then these
-  abbrev pub refusal : Answer
-  refusal = cond (eqb (judged points corners begins .number) 0) (refused fromStart) (judged points corners begins)
+  abbrev pub opening : Answer
+  opening = cond (eqb (judged points corners begins .number) 0) fromStart (judged points corners begins)
 
   -- whether none of them applies
   abbrev pub isOpen : Bool
-  isOpen = eqb (refusal .number) 0
+  isOpen = eqb (opening .number) 0
 
   -- the walk's one answer
   unfoldable pub walked : Walked
-  walked = cond isOpen (arrived (finish points corners begins d start)) (halted refusal)
+  walked = cond isOpen (arrived (finish points corners begins d start)) (halted opening)
 
   -- every entry of the trail after it: a refusal "leaves the trail untouched"
   unfoldable pub trailAfter : List ℕ

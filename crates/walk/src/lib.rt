@@ -56,7 +56,7 @@ pub fn walk(
     ensures trail { λ _. ⌜ now (trail .exit) ≡
         trailAfter (now (points .entry)) (now (corners .entry)) (now (begins .entry)) direction start (now (trail .entry)) ⌝ }
 {
-    let mut edges = [[0u16; 4]; tables::MOST_CORNERS];
+    let mut edges = [[0u16; index::ENTRIES]; tables::MOST_CORNERS];
     let mut heads = [0u16; tables::MOST_VERTICES];
     let answer = judge::judge_with_index(points, corners, begins, &mut edges, &mut heads);
     if answer.number != 0 {

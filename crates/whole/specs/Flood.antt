@@ -24,7 +24,7 @@ abbrev pub marked : List ℕ → ℕ → Bool
 marked marks g = not (eqb (markAt marks g) 0)
 
 -- the two as they are lent to be filled
-pub record Fresh (size : ℕ) (marks queue : List ℕ) : Type 0 where
+pub record Unmarked (size : ℕ) (marks queue : List ℕ) : Type 0 where
   pub unmarked : Blank 0 size marks
   pub empty : Blank 0 size queue
 
@@ -203,7 +203,7 @@ pub record Flood (size n m : ℕ) (a b : ℕ → ℕ) (marks queue : List ℕ) (
   pub start : marked marks 0 ≡ true
   pub done : (i p : ℕ) → i < head → p < n → a p ≡ entryAt queue i → marked marks (b p) ≡ true
 
-pub queue-0 : {size m : ℕ} (R : ℕ → Type 0) {marks queue : List ℕ} → m ≤ size → Fresh size marks queue → Queue size m R marks queue 0
+pub queue-0 : {size m : ℕ} (R : ℕ → Type 0) {marks queue : List ℕ} → m ≤ size → Unmarked size marks queue → Queue size m R marks queue 0
 unfolding countBelow
 queue-0 {size} {m} R f b = rw (b .unmarked, b .empty) (record {
   marks-size = length-replicate {A = ℕ} size 0;

@@ -29,8 +29,8 @@ pub fn write_tape(
     begins: &[u16],
     buffer: &mut [u8],
 ) -> answers::Answer
-    ensures { λ r. ⌜ r ≡ written (now (points .entry)) (now (corners .entry)) (now (begins .entry)) (now (buffer .entry)) ⌝ }
-    ensures { λ _. ⌜ now (buffer .exit) ≡ bufferAfter (now (points .entry)) (now (corners .entry)) (now (begins .entry)) (now (buffer .entry)) ⌝ }
+    ensures answer { λ r. ⌜ r ≡ written (now (points .entry)) (now (corners .entry)) (now (begins .entry)) (now (buffer .entry)) ⌝ }
+    ensures buffer { λ _. ⌜ now (buffer .exit) ≡ bufferAfter (now (points .entry)) (now (corners .entry)) (now (begins .entry)) (now (buffer .entry)) ⌝ }
 {
     let early = limits::check(points, corners, begins);
     if let answers::Fault::Breaks(number, first, second) = early {

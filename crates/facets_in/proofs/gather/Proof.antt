@@ -6,12 +6,12 @@ use native.Mathlib.Omega.{arith}
 use lib.Seq.{sets}
 use Rattle.whole.specs.Joined.{length-listed}
 use Rattle.tape.specs.Little.{unsignedAt}
-use Rattle.tape.specs.Storing.{Storing, storing-0, storing-more, storing-all}
+use Rattle.tape.specs.SoFar.{SoFar, so-far-0, so-far-more, so-far-all}
 use Rattle.facets_in.proofs.gather.Statement.{statement}
 use Rattle.facets_in.proofs.gather.Tie as tie
 
 abbrev Inv-loop : tie.InvT-loop
-Inv-loop tray₀ tape i n k₀ tray k = Storing (λ k. unsignedAt tape (i + 2 * k) ∷ []) n tray₀ tray k
+Inv-loop tray₀ tape i n k₀ tray k = SoFar (λ k. unsignedAt tape (i + 2 * k) ∷ []) n tray₀ tray k
 
 abbrev μ-loop : tie.MeasureT-loop
 μ-loop tray₀ tape i n k₀ tray k = n - k
@@ -21,7 +21,7 @@ loop-again c =
     let l = c .before .before in
     let k = l .loop .k in
     let e = ap (λ (x : ℕ). sets (l .loop .tray) k (x ∷ [])) (c .unsigned-at .ensures) in
-    storing-more (l .loop .inv) k (omega arith) e (length-listed _ k) (omega arith)
+    so-far-more (l .loop .inv) k (omega arith) e (length-listed _ k) (omega arith)
 
 pub gather-spec : {M : Type 1} → statement M
 gather-spec =
@@ -29,7 +29,7 @@ gather-spec =
     (tie.spec
     Inv-loop
     μ-loop
-    (λ c. storing-0 _)
+    (λ c. so-far-0 _)
     (λ c. omega arith)
     (λ c. omega arith)
     (λ c κs. omega arith)
@@ -38,5 +38,5 @@ gather-spec =
     (λ c. omega arith)
     (λ c. omega arith)
     loop-again
-    (λ c. c .before .loop .inv .so-far .long)
-    (λ c. storing-all (c .before .loop .inv) (omega arith)))
+    (λ c. c .before .loop .inv .wrote .long)
+    (λ c. so-far-all (c .before .loop .inv) (omega arith)))

@@ -1,12 +1,12 @@
 -- `facets_in::store` meets its contract. Assumes nothing.
 use Prim.Native.Nat.{_-_}
 use native.Mathlib.Omega.{arith}
-use Rattle.facets_in.specs.Filling.{TrayStoring, store-0, store-more, store-all}
+use Rattle.facets_in.specs.Filling.{TraySoFar, store-0, store-more, store-all}
 use Rattle.facets_in.proofs.store.Statement.{statement}
 use Rattle.facets_in.proofs.store.Tie as tie
 
 abbrev Inv-loop : tie.InvT-loop
-Inv-loop corners₀ c tray n k₀ corners k = TrayStoring tray c n corners₀ corners k
+Inv-loop corners₀ c tray n k₀ corners k = TraySoFar tray c n corners₀ corners k
 
 abbrev μ-loop : tie.MeasureT-loop
 μ-loop corners₀ c tray n k₀ corners k = n - k

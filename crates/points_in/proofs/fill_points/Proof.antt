@@ -2,12 +2,12 @@
 use Prim.Native.Nat.{_+_, _-_, _*_}
 use native.Mathlib.Omega.{arith}
 use Rattle.tape.specs.Reading.{coordsAt, length-points-at}
-use Rattle.tape.specs.Storing.{Storing, storing-0, storing-more, storing-all}
+use Rattle.tape.specs.SoFar.{SoFar, so-far-0, so-far-more, so-far-all}
 use Rattle.points_in.proofs.fill_points.Statement.{statement}
 use Rattle.points_in.proofs.fill_points.Tie as tie
 
 abbrev Inv-loop : tie.InvT-loop
-Inv-loop tape at points₀ n v₀ points v = Storing (λ v. coordsAt tape (at + 7 * v + 1)) n points₀ points v
+Inv-loop tape at points₀ n v₀ points v = SoFar (λ v. coordsAt tape (at + 7 * v + 1)) n points₀ points v
 
 abbrev μ-loop : tie.MeasureT-loop
 μ-loop tape at points₀ n v₀ points v = n - v
@@ -17,7 +17,7 @@ loop-again c =
     let l = c .before .before .before .before in
     let a = l .before .before .args in
     let v = l .loop .v in
-    storing-more (l .loop .inv) (v * 3) (omega arith) (c .before .keep-point .ensures) (length-points-at (a .tape .now) (a .at) v) (omega arith)
+    so-far-more (l .loop .inv) (v * 3) (omega arith) (c .before .keep-point .ensures) (length-points-at (a .tape .now) (a .at) v) (omega arith)
 
 pub fill-points-spec : {M : Type 1} → statement M
 fill-points-spec =
@@ -25,7 +25,7 @@ fill-points-spec =
     (tie.spec
     Inv-loop
     μ-loop
-    (λ c. storing-0 _)
+    (λ c. so-far-0 _)
     (λ c. omega arith)
     (λ c. omega arith)
     (λ c. omega arith)
@@ -34,5 +34,5 @@ fill-points-spec =
     (λ c. omega arith)
     (λ c. omega arith)
     loop-again
-    (λ c. c .before .loop .inv .so-far .long)
-    (λ c. storing-all (c .before .loop .inv) (omega arith)))
+    (λ c. c .before .loop .inv .wrote .long)
+    (λ c. so-far-all (c .before .loop .inv) (omega arith)))

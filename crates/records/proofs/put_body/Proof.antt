@@ -3,12 +3,12 @@ use borrow.Author.Needs.{needs}
 use Prim.Native.Nat.{_-_}
 use native.Mathlib.Omega.{arith}
 use lib.ListN.{length}
-use Rattle.records.specs.Records.{BodyStoring, body-0, body-more, body-all}
+use Rattle.records.specs.Records.{BodySoFar, body-0, body-more, body-all}
 use Rattle.records.proofs.put_body.Statement.{statement}
 use Rattle.records.proofs.put_body.Tie as tie
 
 abbrev Inv-loop : tie.InvT-loop
-Inv-loop rest₀ numbers k₀ rest k = BodyStoring numbers rest₀ rest k
+Inv-loop rest₀ numbers k₀ rest k = BodySoFar numbers rest₀ rest k
 
 abbrev μ-loop : tie.MeasureT-loop
 μ-loop rest₀ numbers k₀ rest k = length numbers - k

@@ -1,16 +1,16 @@
--- `ring::broken` meets its contract. The loop's invariant: `Turning`. The measure: links fall. Assumes nothing.
+-- `ring::broken` meets its contract. The loop's invariant: `Circling`. The measure: links fall. Assumes nothing.
 use borrow.Author.Needs.{needs}
 use mathlib.Core.Path.{sym, _∙_}
 use Prim.Native.Nat.{_<_}
 use native.Mathlib.Omega.{arith}
 use Rattle.index.specs.Entries.{headAt}
-use Rattle.ring.specs.Turning.{Turning, first-small, turning-0, turning-none, turning-more, turning-back, turning-end}
-use Rattle.ring.specs.Turning.{turn-small, turn-falls}
+use Rattle.ring.specs.Circling.{Circling, first-small, circling-0, circling-none, circling-more, circling-back, circling-end}
+use Rattle.ring.specs.Circling.{turn-small, turn-falls}
 use Rattle.ring.proofs.broken.Statement.{statement}
 use Rattle.ring.proofs.broken.Tie as tie
 
 abbrev Inv-loop : tie.InvT-loop
-Inv-loop corners begins edges heads v head p q₀ k₀ q k = Turning corners begins edges heads v p q k
+Inv-loop corners begins edges heads v head p q₀ k₀ q k = Circling corners begins edges heads v p q k
 
 abbrev μ-loop : tie.MeasureT-loop
 μ-loop corners begins edges heads v head p q₀ k₀ q k = k
@@ -19,7 +19,7 @@ returns : tie.Need-returns Inv-loop μ-loop
 returns c =
     let h = c .before in
     let (crossed, l) = h .before .before .before .pre in
-    turning-none crossed l (sym (h .head-at .ensures) ∙ c .if1 .taken)
+    circling-none crossed l (sym (h .head-at .ensures) ∙ c .if1 .taken)
 
 -- some edge leaves v
 first : tie.Need-back-at-requires Inv-loop μ-loop
@@ -37,12 +37,12 @@ loop-holds c =
     let s = h .before .before .before in
     let (crossed, l) = s .pre in
     let some : 0 < headAt (s .args .heads .now) (s .args .v) = omega (arith, h .head-at .ensures, t .if1 .left) in
-    rw (c .back-at .ensures, h .head-at .ensures) (turning-0 crossed l some)
+    rw (c .back-at .ensures, h .head-at .ensures) (circling-0 crossed l some)
 
 returns-2 : tie.Need-returns-2 Inv-loop μ-loop
 returns-2 c =
     let r = c .before in
-    turning-back (r .before .before .loop .inv) (omega arith) (r .round .ensures) (c .if2 .taken)
+    circling-back (r .before .before .loop .inv) (omega arith) (r .round .ensures) (c .if2 .taken)
 
 loop-less : tie.Need-loop-less Inv-loop μ-loop
 loop-less c =
@@ -53,7 +53,7 @@ loop-again : tie.Need-loop-again Inv-loop μ-loop
 loop-again c =
     let t = c .before in
     let r = t .before in
-    rw (c .back-at2 .ensures) (turning-more (r .before .before .loop .inv) (omega arith) (r .round .ensures) (t .if2 .left))
+    rw (c .back-at2 .ensures) (circling-more (r .before .before .loop .inv) (omega arith) (r .round .ensures) (t .if2 .left))
 
 pub broken-spec : {M : Type 1} → statement M
 broken-spec =
@@ -72,4 +72,4 @@ broken-spec =
     (λ c κs. turn-small (c .before .before .before .loop .inv) (omega arith))
     loop-less
     loop-again
-    (λ c. turning-end (c .before .loop .inv) (omega arith)))
+    (λ c. circling-end (c .before .loop .inv) (omega arith)))

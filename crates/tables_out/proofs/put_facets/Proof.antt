@@ -3,7 +3,7 @@ use borrow.Author.Needs.{needs}
 use Prim.Native.Nat.{_-_}
 use native.Mathlib.Omega.{arith}
 use Rattle.whole.specs.Over.{length-window}
-use Rattle.tape.specs.Storing.{storing-all}
+use Rattle.tape.specs.SoFar.{so-far-all}
 use Rattle.tables_out.specs.Records.{WritesFacet, FacetTurn, facet-0, facet-more, writes-facet}
 use Rattle.tables_out.proofs.put_facets.Statement.{statement}
 use Rattle.tables_out.proofs.put_facets.Tie as tie
@@ -54,5 +54,5 @@ put-facets-spec =
     (λ c. omega arith)
     (λ c. omega arith)
     loop-again
-    (λ c. c .before .loop .inv .storing .so-far .long)
-    (λ c. storing-all (c .before .loop .inv .storing) (omega arith)))
+    (λ c. c .before .loop .inv .so-far .wrote .long)
+    (λ c. so-far-all (c .before .loop .inv .so-far) (omega arith)))

@@ -10,7 +10,7 @@ use mir.Val.{SFits, toZ, ofZ}
 use Rattle.points.specs.Points.{coordOf}
 use Rattle.whole.specs.Over.{length-window}
 use Rattle.tape.specs.Little.{read-back}
-use Rattle.tape.specs.Storing.{storing-all}
+use Rattle.tape.specs.SoFar.{so-far-all}
 use Rattle.tables_out.specs.Records.{PointTurn, point-0, point-more}
 use Rattle.tables_out.proofs.put_points.Statement.{statement}
 use Rattle.tables_out.proofs.put_points.Tie as tie
@@ -79,5 +79,5 @@ put-points-spec =
     (λ c. omega arith)
     (λ c. omega arith)
     loop-again
-    (λ c. c .before .loop .inv .storing .so-far .long)
-    (λ c. storing-all (c .before .loop .inv .storing) (omega arith)))
+    (λ c. c .before .loop .inv .so-far .wrote .long)
+    (λ c. so-far-all (c .before .loop .inv .so-far) (omega arith)))

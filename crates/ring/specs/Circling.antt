@@ -19,7 +19,7 @@ use Rattle.ring.specs.Step.{roundOf, step-below}
 use Rattle.ring.specs.Ring.{start, isBack, broken}
 
 -- after i steps from p, none of which led back, it stands at q; the chain has i + 1 places before link k
-pub record Turning (corners begins : List ℕ) (edges : List (List ℕ)) (heads : List ℕ) (v p q k : ℕ) : Type 0 where
+pub record Circling (corners begins : List ℕ) (edges : List (List ℕ)) (heads : List ℕ) (v p q k : ℕ) : Type 0 where
   pub crossed : Crossed corners begins edges heads
   pub i : ℕ
   pub first : p ≡ start corners v
@@ -47,9 +47,9 @@ module _ {corners begins : List ℕ} {edges : List (List ℕ)} {heads : List ℕ
       pub first-small : 0 < headAt heads v → headAt heads v - 1 < mostCorners
       first-small h = link-small (begun .on) h
 
-      pub turning-0 : 0 < headAt heads v → Turning corners begins edges heads v (headAt heads v - 1) (headAt heads v - 1) (backAt edges (headAt heads v - 1))
+      pub circling-0 : 0 < headAt heads v → Circling corners begins edges heads v (headAt heads v - 1) (headAt heads v - 1) (backAt edges (headAt heads v - 1))
       unfolding iterate
-      turning-0 h = record {
+      circling-0 h = record {
         crossed = C;
         i = 0;
         first = ap (λ q. q - 1) (chains .firsts v l);
@@ -60,10 +60,10 @@ module _ {corners begins : List ℕ} {edges : List (List ℕ)} {heads : List ℕ
       }
 
       -- no edge leaves v
-      pub turning-none : headAt heads v ≡ 0 → false ≡ broken corners begins v
-      turning-none e = let n = met-all begun (omega arith) in sym (any-none _ _ (λ j l. absurd (omega arith)))
+      pub circling-none : headAt heads v ≡ 0 → false ≡ broken corners begins v
+      circling-none e = let n = met-all begun (omega arith) in sym (any-none _ _ (λ j l. absurd (omega arith)))
 
-module _ {corners begins : List ℕ} {edges : List (List ℕ)} {heads : List ℕ} {v p q k : ℕ} (T : Turning corners begins edges heads v p q k) where
+module _ {corners begins : List ℕ} {edges : List (List ℕ)} {heads : List ℕ} {v p q k : ℕ} (T : Circling corners begins edges heads v p q k) where
   module _ (h : 0 < k) where
     pub turn-small : k - 1 < mostCorners
     turn-small = link-small (T .crossed) (T .met .on) h
@@ -75,8 +75,8 @@ module _ {corners begins : List ℕ} {edges : List (List ℕ)} {heads : List ℕ
       next-at : r ≡ iterate (roundOf corners begins) (T .i + 1) p
       next-at = rw (iterate-more, ← T .at) s
 
-      pub turning-more : (r ≡ p → ⊥) → Turning corners begins edges heads v p r (backAt edges (k - 1))
-      turning-more d = record {
+      pub circling-more : (r ≡ p → ⊥) → Circling corners begins edges heads v p r (backAt edges (k - 1))
+      circling-more d = record {
         crossed = T .crossed;
         i = T .i + 1;
         first = T .first;
@@ -86,10 +86,10 @@ module _ {corners begins : List ℕ} {edges : List (List ℕ)} {heads : List ℕ
         met = met-next (T .crossed) (T .met) h;
       }
 
-      pub turning-back : r ≡ p → true ≡ broken corners begins v
-      turning-back e =
+      pub circling-back : r ≡ p → true ≡ broken corners begins v
+      circling-back e =
           let c = count-but (leaves corners v) (k - 1) k (omega arith) (eq-eqb _ _ (T .met .on .leads h)) in
           rw (← T .first) (sym (any-is _ _ (T .i) (omega (arith, T .met .sum)) (eq-eqb _ _ (sym next-at ∙ e))))
 
-  pub turning-end : k ≤ 0 → false ≡ broken corners begins v
-  turning-end h = let n = met-all (T .met) h in rw (← T .first) (sym (any-none _ _ (λ j l. T .unmet j (omega arith))))
+  pub circling-end : k ≤ 0 → false ≡ broken corners begins v
+  circling-end h = let n = met-all (T .met) h in rw (← T .first) (sym (any-none _ _ (λ j l. T .unmet j (omega arith))))
