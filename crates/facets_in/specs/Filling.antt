@@ -45,7 +45,7 @@ pub record Fillable (s : List ℕ) (from n : ℕ) (corners begins : List ℕ) : 
   pub run-room : mostCorners ≤ length corners
   pub begin-room : n < length begins
 
--- the record of this turn's facet: s holds it whole, and the tables have room for it
+-- the record of this round's facet: s holds it whole, and the tables have room for it
 pub record ReadsFacet (s : List ℕ) (at c f : ℕ) : Type 0 where
   pub narrow : getD s at 0 ≤ mostSides
   pub inside : at + (1 + 2 * getD s at 0) ≤ length s

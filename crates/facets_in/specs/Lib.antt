@@ -1,2 +1,2 @@
--- The lent tables while facets are stored into them.
+-- The corners and begins of a tape's records, stored into the lent tables: what these hold on the way.
 pub mod Filling

@@ -9,14 +9,14 @@ use lib.ListN.{length, getD}
 use borrow.Author.Tests.{eq-eqb, ne-eqb}
 use Rattle.points.specs.Points.{vertices, Ranged, Vertex}
 use Rattle.sides.specs.Sides.{Three}
-use Rattle.tables.specs.Tables.{facets, sides, facetOf, nextPosition}
+use Rattle.tables.specs.Tables.{mostSides, facets, sides, facetOf, nextPosition}
 use Rattle.tables.specs.Facets.{Clear}
 use Rattle.tables.specs.Places.{Sound, part-length, sides-some, sides-few, corner-at, place-below}
 
 pub record Facet (points : List ℤ) (part : List ℕ) : Type 0 where
   pub ranged : Ranged points
   pub some : 3 ≤ length part
-  pub few : length part ≤ 12
+  pub few : length part ≤ mostSides
   pub named : (p : ℕ) → p < length part → Vertex points (getD part p 0)
 
 -- the corners that its plane comes from

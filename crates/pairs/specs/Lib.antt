@@ -1,2 +1,2 @@
--- The neighbours of an outline's points.
+-- The points of an outline: the neighbours of each in the ring.
 pub mod Neighbour

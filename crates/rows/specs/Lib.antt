@@ -1,2 +1,2 @@
--- What the cross product of two rows of three promises.
+-- Rows of three whole numbers: what the determinant of three rows and the cross product of two promise.
 pub mod Cross

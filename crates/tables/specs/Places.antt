@@ -12,7 +12,7 @@ use lib.ListN.{length, getD, drop, length-take, length-drop}
 use lib.Seq.{getD-take, getD-drop}
 use borrow.Author.Tests.{lt-ltb, le-ltb, eqb-true, eqb-false}
 use Rattle.whole.specs.First.{lowest-first}
-use Rattle.tables.specs.Tables.{leastVertices, mostVertices, mostCorners, facets, begin, end, sides, facetOf, cornerOf, homeOf, nextOf, from}
+use Rattle.tables.specs.Tables.{leastVertices, mostVertices, mostCorners, mostSides, facets, begin, end, sides, facetOf, cornerOf, homeOf, nextOf, from}
 use Rattle.tables.specs.Size.{Laid}
 
 -- each corner is one of n vertices
@@ -167,7 +167,7 @@ module _ {corners begins : List ℕ} (L : Laid corners begins) {f : ℕ} (l : f 
       let i : In begins f (end begins f - 1) = record { facet = facet-in; low = omega (arith, r); high = omega (arith, r) } in
       omega (arith, in-run L i)
 
-  pub sides-few : sides begins f ≤ 12
+  pub sides-few : sides begins f ≤ mostSides
   sides-few = omega (arith, L .narrow f facet-in)
 
   pub sides-some : 3 ≤ sides begins f

@@ -53,7 +53,7 @@ pub record FacetTurn (corners begins old new : List ℕ) (at f : ℕ) : Type 0 w
 pub facet-0 : {corners begins buffer : List ℕ} → PutsFacets corners begins buffer → FacetTurn corners begins buffer buffer 0 0
 facet-0 {corners} {begins} {buffer} p = record { asked = p; here = omega (arith, p .laid .start); so-far = so-far-0 buffer }
 
--- the part of this turn's facet, whose record starts at `at`
+-- the part of this round's facet, whose record starts at `at`
 pub record WritesFacet (corners begins part : List ℕ) (at f : ℕ) : Type 0 where
   pub few : length part ≤ mostSides
   pub next : at + (1 + 2 * length part) ≡ f + 1 + 2 * begin begins (f + 1)

@@ -1,2 +1,2 @@
--- The loop that looks for the second far point.
+-- WOUND: the search for a second far point.
 pub mod Seen

@@ -16,7 +16,7 @@ Inv-loop tape from corners₀ begins₀ n tray₀ at₀ c₀ f₀ corners begins
 abbrev μ-loop : tie.MeasureT-loop
 μ-loop tape from corners₀ begins₀ n tray₀ at₀ c₀ f₀ corners begins tray at c f = n - f
 
--- the facet of this turn
+-- the facet of this round
 module _ (c : tie.In-loop Inv-loop μ-loop) where
   abbrev l : tie.At-loop Inv-loop μ-loop
   l = c .before

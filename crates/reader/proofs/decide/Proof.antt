@@ -18,7 +18,7 @@ Inv-loop tape at₀ v₀ f₀ c₀ at v f c = Stands tape (lookAt tape) (readTap
 abbrev μ-loop : tie.MeasureT-loop
 μ-loop tape at₀ v₀ f₀ c₀ at v f c = length tape - at
 
--- this turn's look, and that the loop stands at a place of the reading
+-- this round's look, and that the loop stands at a place of the reading
 module _ (c : tie.After-look Inv-loop μ-loop) where
   abbrev l : tie.At-loop Inv-loop μ-loop
   l = c .before

@@ -14,7 +14,7 @@ Inv-loop buffer₀ corners begins n at₀ f₀ buffer at f = FacetTurn corners b
 abbrev μ-loop : tie.MeasureT-loop
 μ-loop buffer₀ corners begins n at₀ f₀ buffer at f = n - f
 
--- the facet of this turn
+-- the facet of this round
 module _ (c : tie.After-part Inv-loop μ-loop) where
   abbrev l : tie.At-loop Inv-loop μ-loop
   l = c .before .before

@@ -21,7 +21,7 @@ Inv-loop buffer₀ points n v₀ buffer v = PointTurn points buffer₀ buffer v
 abbrev μ-loop : tie.MeasureT-loop
 μ-loop buffer₀ points n v₀ buffer v = n - v
 
--- the coordinates of this turn, as the machine reads them
+-- the coordinates of this round, as the machine reads them
 module _ (c : tie.After-coord3 Inv-loop μ-loop) where
   abbrev l : tie.At-loop Inv-loop μ-loop
   l = c .before .before .before .before
