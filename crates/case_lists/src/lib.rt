@@ -5,7 +5,7 @@ ghost use Rattle.whole.specs.Begin.{Begin};
 pub fn fill_points(text: &[u8], at: &mut usize, list: &mut [i32]) -> usize
     ensures { λ r. ⌜ Begin r (now (list .exit)) ⌝ }
 {
-    let n = case_numbers::next_count(text, at, list.len());
+    let n = case_numbers::next_natural(text, at, list.len());
     let mut i = 0;
     while i < n {
         list[i] = case_numbers::next_signed(text, at);
@@ -18,10 +18,10 @@ pub fn fill_points(text: &[u8], at: &mut usize, list: &mut [i32]) -> usize
 pub fn fill_shorts(text: &[u8], at: &mut usize, list: &mut [u16]) -> usize
     ensures { λ r. ⌜ Begin r (now (list .exit)) ⌝ }
 {
-    let n = case_numbers::next_count(text, at, list.len());
+    let n = case_numbers::next_natural(text, at, list.len());
     let mut i = 0;
     while i < n {
-        list[i] = case_numbers::next_short(text, at);
+        list[i] = case_numbers::next_natural(text, at, 65535) as u16;
         i += 1;
     }
     n
@@ -31,32 +31,11 @@ pub fn fill_shorts(text: &[u8], at: &mut usize, list: &mut [u16]) -> usize
 pub fn fill_bytes(text: &[u8], at: &mut usize, list: &mut [u8]) -> usize
     ensures { λ r. ⌜ Begin r (now (list .exit)) ⌝ }
 {
-    let n = case_numbers::next_count(text, at, list.len());
+    let n = case_numbers::next_natural(text, at, list.len());
     let mut i = 0;
     while i < n {
-        list[i] = case_numbers::next_byte(text, at);
+        list[i] = case_numbers::next_natural(text, at, 255) as u8;
         i += 1;
     }
     n
-}
-
-// How many of a list's first entries the text asks for.
-pub fn part_of_points(text: &[u8], at: &mut usize, list: &[i32]) -> usize
-    ensures { λ r. ⌜ Begin r (now (list .entry)) ⌝ }
-{
-    case_numbers::next_count(text, at, list.len())
-}
-
-// The same of numbers of 16 bits.
-pub fn part_of_shorts(text: &[u8], at: &mut usize, list: &[u16]) -> usize
-    ensures { λ r. ⌜ Begin r (now (list .entry)) ⌝ }
-{
-    case_numbers::next_count(text, at, list.len())
-}
-
-// The same of bytes.
-pub fn part_of_bytes(text: &[u8], at: &mut usize, list: &[u8]) -> usize
-    ensures { λ r. ⌜ Begin r (now (list .entry)) ⌝ }
-{
-    case_numbers::next_count(text, at, list.len())
 }

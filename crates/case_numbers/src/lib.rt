@@ -42,17 +42,18 @@ fn value(word: &[u8]) -> i64 {
     digits(word) as i64
 }
 
-// A number of 32 bits without sign; 0 for any other.
-pub fn natural(z: i64) -> usize
-    ensures { λ r. ⌜ r ≤ 4294967295 ⌝ }
+// A number that is at least 0 and no more than `most`; 0 for any other.
+fn natural(z: i64, most: usize) -> usize
+    ensures { λ r. ⌜ r ≤ most ⌝ }
 {
     if z < 0 {
         return 0;
     }
-    if 4294967295 < z {
+    let n = z as usize;
+    if most < n {
         return 0;
     }
-    z as usize
+    n
 }
 
 // A number of 32 bits with sign; the least for any below, 0 for any above.
@@ -81,43 +82,14 @@ fn next(text: &[u8], at: &mut usize) -> i64 {
     value(&text[start..end])
 }
 
-// The next number as one of 32 bits without sign.
-pub fn next_natural(text: &[u8], at: &mut usize) -> usize
-    ensures { λ r. ⌜ r ≤ 4294967295 ⌝ }
+// The next number as one of at most so much.
+pub fn next_natural(text: &[u8], at: &mut usize, most: usize) -> usize
+    ensures { λ r. ⌜ r ≤ most ⌝ }
 {
-    natural(next(text, at))
+    natural(next(text, at), most)
 }
 
 // The next number as one of 32 bits with sign.
 pub fn next_signed(text: &[u8], at: &mut usize) -> i32 {
     signed(next(text, at))
-}
-
-// The next number as one of 16 bits; 0 for any other.
-pub fn next_short(text: &[u8], at: &mut usize) -> u16 {
-    let n = next_natural(text, at);
-    if 65535 < n {
-        return 0;
-    }
-    n as u16
-}
-
-// The next number as one of 8 bits; 0 for any other.
-pub fn next_byte(text: &[u8], at: &mut usize) -> u8 {
-    let n = next_natural(text, at);
-    if 255 < n {
-        return 0;
-    }
-    n as u8
-}
-
-// The next number as a count; 0 where there is no room for so many.
-pub fn next_count(text: &[u8], at: &mut usize, room: usize) -> usize
-    ensures { λ r. ⌜ r ≤ room ⌝ }
-{
-    let n = next_natural(text, at);
-    if room < n {
-        return 0;
-    }
-    n
 }

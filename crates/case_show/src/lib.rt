@@ -1,33 +1,22 @@
 // What the stored cases print: numbers, each with a blank before it.
+ghost use Prim.Native.Nat.{_≤_};
+ghost use lib.ListN.{length};
 
-// The absolute value of a number that has 32 bits; 0 for any other.
-fn magnitude(z: i64) -> usize {
-    if z < -4294967295 {
-        return 0;
-    }
-    if 4294967295 < z {
-        return 0;
-    }
-    if z < 0 {
-        return case_numbers::natural(-z);
-    }
-    case_numbers::natural(z)
-}
+// Room for a blank and a number of 64 bits.
+const ROOM: usize = 21;
 
 fn show(z: i64) {
-    io::write_all(1, b" ");
-    if z < 0 {
-        io::write_all(1, b"-");
-    }
-    io::print_decimal(1, magnitude(z) as u64);
+    let mut text = [b' '; ROOM];
+    let end = decimal::put_number(&mut text, 1, z);
+    io::write_all(1, &text[..end]);
 }
 
 fn show_short(x: u16) {
-    show(lines::number_of(x as usize));
+    show(x as i64);
 }
 
 fn show_byte(x: u8) {
-    show(lines::number_of(x as usize));
+    show(x as i64);
 }
 
 // An answer: its number, then what was noted beside it.
@@ -40,31 +29,37 @@ pub fn show_answer(number: u16, noted: &[i64]) {
     }
 }
 
-// A list, with a bar before it.
-pub fn show_points(list: &[i32]) {
+// The first n entries of a list, with a bar before them.
+pub fn show_points(list: &[i32], n: usize)
+    requires { ⌜ n ≤ length (now list) ⌝ }
+{
     io::write_all(1, b" |");
     let mut i = 0;
-    while i < list.len() {
+    while i < n {
         show(points::widen(list[i]));
         i += 1;
     }
 }
 
 // The same of numbers of 16 bits.
-pub fn show_shorts(list: &[u16]) {
+pub fn show_shorts(list: &[u16], n: usize)
+    requires { ⌜ n ≤ length (now list) ⌝ }
+{
     io::write_all(1, b" |");
     let mut i = 0;
-    while i < list.len() {
+    while i < n {
         show_short(list[i]);
         i += 1;
     }
 }
 
 // The same of bytes.
-pub fn show_bytes(list: &[u8]) {
+pub fn show_bytes(list: &[u8], n: usize)
+    requires { ⌜ n ≤ length (now list) ⌝ }
+{
     io::write_all(1, b" |");
     let mut i = 0;
-    while i < list.len() {
+    while i < n {
         show_byte(list[i]);
         i += 1;
     }

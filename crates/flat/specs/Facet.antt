@@ -1,4 +1,5 @@
 -- What the tests of one facet ask of its part of the run, and what they have where 1 to 3 pass. Assumes nothing.
+use mathlib.Core.Path.{_≡_}
 use mathlib.Core.List.{List}
 use Prim.Native.Nat.{ℕ, _+_, _≤_, _<_}
 use native.Mathlib.Omega.{arith}
@@ -28,10 +29,17 @@ first-three f =
 abbrev pub cornerAfter : List ℕ → ℕ → ℕ
 cornerAfter part p = getD part (nextPosition (length part) p) 0
 
-pub after-named : {points : List ℤ} {part : List ℕ} {p : ℕ} → Facet points part → p < length part → Vertex points (cornerAfter part p)
-after-named {points} {part} {p} f l = elim (ℕ-discrete (p + 1) (length part)) [
-  | yes s ↦ rw (eq-eqb _ _ s) (f .named 0 (omega arith))
-  | no s ↦ rw (ne-eqb _ _ s) (f .named (p + 1) (omega arith))
+-- the last one wraps, and each other goes on
+pub after-last : (part : List ℕ) (p : ℕ) → p + 1 ≡ length part → getD part 0 0 ≡ cornerAfter part p
+after-last part p e = rw (eq-eqb _ _ e)
+
+pub after-other : (part : List ℕ) (p : ℕ) → (p + 1 ≡ length part → ⊥) → getD part (p + 1) 0 ≡ cornerAfter part p
+after-other part p e = rw (ne-eqb _ _ e)
+
+pub after-named : {points : List ℤ} {part : List ℕ} (p : ℕ) → Facet points part → p < length part → Vertex points (cornerAfter part p)
+after-named {points} {part} p f l = elim (ℕ-discrete (p + 1) (length part)) [
+  | yes e ↦ rw (← after-last part p e) (f .named 0 (omega arith))
+  | no e ↦ rw (← after-other part p e) (f .named (p + 1) (omega arith))
 ]
 
 -- tables that pass 1 to 3

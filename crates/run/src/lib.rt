@@ -8,7 +8,7 @@ const TAPE: usize = 7 * tables::MOST_VERTICES + tables::MOST_FACETS + 2 * tables
 const INPUT: usize = input::LONGEST + 1;
 
 // Prints the bytes of a line.
-fn print(line: lines::Line)
+pub fn print(line: lines::Line)
     requires { ⌜ Counts (line .len) (line .bytes) ⌝ }
 {
     let bytes = line.bytes;

@@ -26,6 +26,7 @@ fill-bytes-spec =
     (λ c. search needs)
     (λ c. search needs)
     (λ c. search needs)
+    (λ c. search needs)
     (λ c. simp length-set (c .before .before .before .loop .inv))
     (λ c. c .before .loop .inv)
     (λ c. is-begin _ _ (omega arith)))

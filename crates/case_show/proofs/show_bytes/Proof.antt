@@ -1,15 +1,14 @@
 -- `case_show::show_bytes` meets its contract. Assumes nothing.
 use borrow.Author.Needs.{needs}
 use Prim.Native.Nat.{_-_}
-use lib.ListN.{length}
 use Rattle.case_show.proofs.show_bytes.Statement.{statement}
 use Rattle.case_show.proofs.show_bytes.Tie as tie
 
 abbrev Inv-loop : tie.InvT-loop
-Inv-loop list i₀ i = Unit {0}
+Inv-loop list n i₀ i = Unit {0}
 
 abbrev μ-loop : tie.MeasureT-loop
-μ-loop list i₀ i = length list - i
+μ-loop list n i₀ i = n - i
 
 pub show-bytes-spec : {M : Type 1} → statement M
 show-bytes-spec =

@@ -1,15 +1,14 @@
 -- `case_show::show_points` meets its contract. Assumes nothing.
 use borrow.Author.Needs.{needs}
 use Prim.Native.Nat.{_-_}
-use lib.ListN.{length}
 use Rattle.case_show.proofs.show_points.Statement.{statement}
 use Rattle.case_show.proofs.show_points.Tie as tie
 
 abbrev Inv-loop : tie.InvT-loop
-Inv-loop list i₀ i = Unit {0}
+Inv-loop list n i₀ i = Unit {0}
 
 abbrev μ-loop : tie.MeasureT-loop
-μ-loop list i₀ i = length list - i
+μ-loop list n i₀ i = n - i
 
 pub show-points-spec : {M : Type 1} → statement M
 show-points-spec =

@@ -1,6 +1,6 @@
 -- `flat::corner_after` meets its contract. Assumes nothing.
 use borrow.Author.Needs.{needs}
-use borrow.Author.Tests.{eq-eqb, ne-eqb}
+use Rattle.flat.specs.Facet.{after-last, after-other}
 use Rattle.flat.proofs.corner_after.Statement.{statement}
 use Rattle.flat.proofs.corner_after.Tie as tie
 
@@ -10,7 +10,7 @@ corner-after-spec =
     (tie.spec
     (λ c. search needs)
     (λ c. search needs)
-    (λ c. rw (eq-eqb _ _ (c .before .if1 .taken)))
+    (λ c. after-last (c .before .before .args .part .now) _ (c .before .if1 .taken))
     (λ c. search needs)
     (λ c. search needs)
-    (λ c. rw (ne-eqb _ _ (c .before .if1 .left))))
+    (λ c. after-other (c .before .before .args .part .now) _ (c .before .if1 .left)))

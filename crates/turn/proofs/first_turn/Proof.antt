@@ -32,7 +32,7 @@ some-stray-requires : tie.Need-some-stray-requires Inv-loop μ-loop
 some-stray-requires c κs =
     let l = in-loop c .loop in
     let f = l .inv .facet in
-    (f, l .inv .normal .small, f .named (l .p) (omega arith), rw (c .corner-after .ensures) (after-named f (omega arith)))
+    (f, l .inv .normal .small, f .named (l .p) (omega arith), rw (c .corner-after .ensures) (after-named (l .p) f (omega arith)))
 
 returns : tie.Need-returns Inv-loop μ-loop
 unfolding isTurn

@@ -1,9 +1,9 @@
--- `cases_main::run` meets its contract. Assumes nothing.
+-- `cases::run` meets its contract. Assumes nothing.
 use borrow.Author.Needs.{needs}
 use Prim.Native.Nat.{_-_}
 use lib.ListN.{length}
-use Rattle.cases_main.proofs.run.Statement.{statement}
-use Rattle.cases_main.proofs.run.Tie as tie
+use Rattle.cases.proofs.run.Statement.{statement}
+use Rattle.cases.proofs.run.Tie as tie
 
 abbrev Inv-loop : tie.InvT-loop
 Inv-loop text at₀ i₀ at i = Unit {0}
