@@ -1,6 +1,6 @@
 -- `case_write::write_case` meets its contract. Assumes nothing.
 use borrow.Author.Needs.{needs}
-use Rattle.case_lists.specs.Begin.{begin}
+use Rattle.whole.specs.Begin.{is-begin}
 use Rattle.case_write.proofs.write_case.Statement.{statement}
 use Rattle.case_write.proofs.write_case.Tie as tie
 
@@ -10,6 +10,6 @@ write-case-spec =
     (tie.spec
     (λ c κs. search needs)
     (λ c. search needs)
-    (λ c. begin _ _ (c .before .next-natural .ensures) .1)
+    (λ c. is-begin _ _ (c .before .next-natural .ensures) .1)
     (λ c κs. search needs)
     (λ c. search needs))
