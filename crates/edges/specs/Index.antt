@@ -14,7 +14,7 @@ use Rattle.whole.specs.Filled.{Filled, blank, filled-0, filled-more, filled-aga
 use Rattle.tables.specs.Tables.{mostVertices, mostCorners, homeOf, nextIn, nextOf, from, to}
 use Rattle.tables.specs.Size.{Laid}
 use Rattle.tables.specs.Places.{Named, Sound, In, home, home-is as home-of, next-below}
-use Rattle.index.specs.Entries.{row, blankRow, homeAt, endAt, acrossAt, backAt, headAt, Fresh}
+use Rattle.index.specs.Entries.{row, blankRow, homeAt, endAt, acrossAt, headAt, Fresh}
 use Rattle.edges.specs.Homes.{homeOn, Upto, upto, upto-0, home-on}
 use Rattle.edges.specs.Chains.{lastOf, backOf, Chains}
 use Rattle.edges.specs.Edge.{isEdge, lastEdge, acrossOf, across-is, across-below}

@@ -4,13 +4,14 @@ ghost use Prim.Native.Nat.{_<_};
 ghost use Rattle.tables.specs.Tables.{mostVertices, mostCorners};
 ghost use Rattle.index.specs.Entries.{homeAt, endAt, acrossAt, backAt, headAt};
 
-const HOME: usize = 0;
+// The columns of a row of Edges.
+pub const HOME: usize = 0;
 
-const END: usize = 1;
+pub const END: usize = 1;
 
 pub const ACROSS: usize = 2;
 
-const BACK: usize = 3;
+pub const BACK: usize = 3;
 
 // How many entries a row of the index has.
 pub const ENTRIES: usize = 4;

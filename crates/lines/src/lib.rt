@@ -17,7 +17,7 @@ fn after(others: usize) -> u8
 }
 
 // A line of numbers, stored from `at` on; the place after it.
-pub fn put_line(buf: &mut [u8], at: usize, numbers: &[i64]) -> usize
+fn put_line(buf: &mut [u8], at: usize, numbers: &[i64]) -> usize
     requires { ⌜ at + length (lineOf (now numbers)) ≤ length (now buf) ⌝ }
     ensures { λ r. ⌜ Stored (lineOf (now (numbers .entry))) (now (buf .entry)) (now (buf .exit)) at r ⌝ }
 {
@@ -34,7 +34,7 @@ pub fn put_line(buf: &mut [u8], at: usize, numbers: &[i64]) -> usize
 }
 
 // Room for seven numbers of 20 bytes, each with a byte after it.
-pub const ROOM: usize = 147;
+const ROOM: usize = 147;
 
 // A line: its bytes are the first `len`, and the others are 0.
 pub struct Line {
@@ -43,7 +43,7 @@ pub struct Line {
 }
 
 // A line of numbers that has room.
-pub fn line_of(numbers: &[i64]) -> Line
+fn line_of(numbers: &[i64]) -> Line
     requires { ⌜ length (lineOf (now numbers)) ≤ room ⌝ }
     ensures { λ r. ⌜ r ≡ lineIn (now (numbers .entry)) ⌝ }
 {

@@ -41,7 +41,7 @@ fn are_digits(s: &[u8]) -> bool
 }
 
 // Beyond this a value is not told apart.
-pub const MOST: u64 = 1_000_000_000;
+const MOST: u64 = 1_000_000_000;
 
 // What is kept of n with one digit more.
 fn more(n: u64, b: u8) -> u64
@@ -94,7 +94,7 @@ fn has_minus(word: &[u8]) -> bool
 }
 
 // A word read as a number.
-pub fn number(word: &[u8]) -> Read
+fn number(word: &[u8]) -> Read
     ensures { λ r. ⌜ r ≡ readOf (now (word .entry)) ⌝ }
 {
     if has_minus(word) {

@@ -34,7 +34,7 @@ falls-by e a b = rw (step-up e a b) (
 
 -- ---- turns
 
--- A6, seen along e
+-- a third vector of the plane by two, det(u,v) w + det(v,w) u = det(u,w) v, seen along e
 seen-along : (e u v w : Vec ℤ) → det u w *ℤ det e v ≡ det u v *ℤ det e w +ℤ det v w *ℤ det e u
 unfolding det
 seen-along = solve² 4 (λ e u v w. let d = detᵒ exprs in d u w ⊗ d e v ≐ d u v ⊗ d e w ⊕ d v w ⊗ d e u) tt

@@ -131,9 +131,6 @@ pub record Crossed (corners begins : List ℕ) (edges : List (List ℕ)) (heads 
   pub paired : Paired corners begins
 
 module _ {corners begins : List ℕ} {edges : List (List ℕ)} {heads : List ℕ} (C : Crossed corners begins edges heads) {p : ℕ} (l : p < length corners) where
-  pub across-entry : Reverse corners begins p (acrossAt edges p)
-  across-entry = rw (across-at-is (C .indexed) l) (across (C .paired) l)
-
   pub across-small : acrossAt edges p < mostCorners
   across-small = small (C .indexed) (across-at-below (C .indexed) l)
 

@@ -3,4 +3,3 @@ pub mod Flat
 pub mod Pair
 pub mod Across
 pub mod Answered
-pub mod Neighbours

@@ -4,7 +4,7 @@ use lib.IntN.{ℤ, pos, _+ℤ_, _*ℤ_, *ℤ-zero, +ℤ-comm}
 use lib.Signed.{_≤ℤ_, _<ℤ_}
 use Rattle.whole.specs.Formula.{ints}
 use Rattle.whole.specs.Order.{≤-antisym, clash, eq→le, lt→le, not-lt}
-use Rattle.whole.specs.Signs.{same-≤, same-<, same->, balance, blend-≤}
+use Rattle.whole.specs.Signs.{same-≤, same-<, balance, blend-≤}
 use Rattle.space.specs.Vec.{Vec, cross}
 use Rattle.space.specs.Vectors.{_·_, det, normal-pos, swap-≤, swap-<, aside, aside-0}
 use Rattle.space.specs.Algebra.{parallel, in-plane}
@@ -19,15 +19,12 @@ module _ {n a b : Vec ℤ} (t : Left n a b) where
   pub upright : pos 0 <ℤ n · n
   upright = normal-pos n a b (t .left)
 
-  -- L2: det a b x has the sign of n · x
+  -- L2: det a b x is not positive, or negative, where n · x is so
   pub below-≤ : (x : Vec ℤ) → n · x ≤ℤ pos 0 → det a b x ≤ℤ pos 0
   below-≤ x = same-≤ upright (t .left) (parallel n a b x (t .on-a) (t .on-b))
 
   pub below-< : (x : Vec ℤ) → n · x <ℤ pos 0 → det a b x <ℤ pos 0
   below-< x = same-< upright (t .left) (parallel n a b x (t .on-a) (t .on-b))
-
-  pub above-< : (x : Vec ℤ) → pos 0 <ℤ n · x → pos 0 <ℤ det a b x
-  above-< x = same-> upright (t .left) (parallel n a b x (t .on-a) (t .on-b))
 
 -- a second normal, around which a is left of b
 module _ {n m a b : Vec ℤ} (t : Left n a b) (s : Left m b a) where

@@ -5,7 +5,6 @@ use lib.IntN.{ℤ, pos}
 use lib.Signed.{ltZ, _<ℤ_}
 use lib.ListN.{getD}
 use mathlib.Core.Path.{_≡_, refl, sym}
-use Rattle.whole.specs.Count.{is-false}
 use Rattle.whole.specs.Order.{ltZ-true, ltZ-false, ≤-antisym}
 
 abbrev pub isBelow : ℤ → Bool
@@ -20,13 +19,6 @@ isZero x = cond (isBelow x) false (not (isAbove x))
 -- three points are in line where the normal is nought
 abbrev pub isNought : List ℤ → Bool
 isNought n = isZero (getD n 0 (pos 0)) && (isZero (getD n 1 (pos 0)) && isZero (getD n 2 (pos 0)))
-
--- a test that failed
-pub not-below : (x : ℤ) → (x <ℤ pos 0 → ⊥) → isBelow x ≡ false
-not-below x h = is-false (isBelow x) (λ e. h (ltZ-true x (pos 0) e))
-
-pub not-above : (x : ℤ) → (pos 0 <ℤ x → ⊥) → isAbove x ≡ false
-not-above x h = is-false (isAbove x) (λ e. h (ltZ-true (pos 0) x e))
 
 -- on the plane is the volume 0
 pub zero-is : (x : ℤ) → isBelow x ≡ false → isAbove x ≡ false → x ≡ pos 0

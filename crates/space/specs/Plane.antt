@@ -3,8 +3,8 @@ use mathlib.Core.Path.{_≡_}
 use mathlib.Core.List.{_∷_}
 use Prim.Native.Nat.{ℕ, suc}
 use lib.Dec.{T}
-use lib.IntN.{ℤ, pos, negℤ, _+ℤ_, _-ℤ_, _*ℤ_}
-use Rattle.whole.specs.Solver.{var, num, neg, _⊕_, _⊖_, _⊗_, Eqn, _≐_, Holds, test, Group, In, fill, All, solve-in, solve}
+use lib.IntN.{ℤ, negℤ, _-ℤ_}
+use Rattle.whole.specs.Solver.{var, neg, _⊖_, _⊗_, Eqn, _≐_, Holds, test, Group, In, fill, All, solve-in, solve}
 use Rattle.whole.specs.Order.{Claim, Says, certain, nothing, prove-in}
 use Rattle.whole.specs.Formula.{Ops, ints, exprs}
 
@@ -33,16 +33,6 @@ sub = subᵒ ints
 
 abbrev pub opp : Vec ℤ → Vec ℤ
 opp u = vec (negℤ (u .x)) (negℤ (u .y))
-
-abbrev pub none : Vec ℤ
-none = vec (pos 0) (pos 0)
-
--- a u + b v
-abbrev pub mix : ℤ → Vec ℤ → ℤ → Vec ℤ → Vec ℤ
-mix a u b v = record { x = a *ℤ u .x +ℤ b *ℤ v .x; y = a *ℤ u .y +ℤ b *ℤ v .y }
-
-abbrev pub scaled : ℤ → Vec ℤ → Vec ℤ
-scaled c u = record { x = c *ℤ u .x; y = c *ℤ u .y }
 
 -- shut but for the lemmas that say `unfolding det`
 unfoldable pub det : Vec ℤ → Vec ℤ → ℤ
@@ -76,25 +66,6 @@ det-opp-r = solve² 2 (λ u v. u .x ⊗ neg (v .y) ⊖ u .y ⊗ neg (v .x) ≐ n
 pub det-opp : (u v : Vec ℤ) → det (opp u) (opp v) ≡ det u v
 unfolding det
 det-opp = solve² 2 (λ u v. neg (u .x) ⊗ neg (v .y) ⊖ neg (u .y) ⊗ neg (v .x) ≐ detᵒ exprs u v) tt
-
-pub det-none : (v : Vec ℤ) → det none v ≡ pos 0
-unfolding det
-det-none = solve² 1 (λ v. num (pos 0) ⊗ v .y ⊖ num (pos 0) ⊗ v .x ≐ num (pos 0)) tt
-
--- a third vector of the plane by two: det(u,v) w + det(v,w) u = det(u,w) v
-pub plane : (u v w : Vec ℤ) → mix (det u v) w (det v w) u ≡ scaled (det u w) v
-unfolding det
-plane u v w = λ i. record {
-  x = solve² 3 (λ u v w. detᵒ exprs u v ⊗ w .x ⊕ detᵒ exprs v w ⊗ u .x ≐ detᵒ exprs u w ⊗ v .x) tt u v w i;
-  y = solve² 3 (λ u v w. detᵒ exprs u v ⊗ w .y ⊕ detᵒ exprs v w ⊗ u .y ≐ detᵒ exprs u w ⊗ v .y) tt u v w i;
-}
-
-pub plane-opp : (u v w : Vec ℤ) → mix (det u v) (opp w) (det w v) u ≡ scaled (det u w) (opp v)
-unfolding det
-plane-opp u v w = λ i. record {
-  x = solve² 3 (λ u v w. detᵒ exprs u v ⊗ neg (w .x) ⊕ detᵒ exprs w v ⊗ u .x ≐ detᵒ exprs u w ⊗ neg (v .x)) tt u v w i;
-  y = solve² 3 (λ u v w. detᵒ exprs u v ⊗ neg (w .y) ⊕ detᵒ exprs w v ⊗ u .y ≐ detᵒ exprs u w ⊗ neg (v .y)) tt u v w i;
-}
 
 pub opp-sub : (a b : Vec ℤ) → opp (sub b a) ≡ sub a b
 opp-sub a b = λ i. record { x = turned (a .x) (b .x) i; y = turned (a .y) (b .y) i }

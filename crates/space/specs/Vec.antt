@@ -28,10 +28,6 @@ module _ {ℓ} (O : Ops {ℓ}) where
   abbrev pub cross : Vec C → Vec C → Vec C
   cross p q = record { x = p .y * q .z - p .z * q .y; y = p .z * q .x - p .x * q .z; z = p .x * q .y - p .y * q .x }
 
-  -- s p + t q
-  abbrev pub mix : C → Vec C → C → Vec C → Vec C
-  mix s p t q = record { x = s * p .x + t * q .x; y = s * p .y + t * q .y; z = s * p .z + t * q .z }
-
   -- the determinant of three rows
   abbrev pub det : Vec C → Vec C → Vec C → C
   det p q r = dot p (cross q r)

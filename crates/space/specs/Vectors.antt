@@ -63,7 +63,7 @@ pub aside-0 : (m U : Vec ℤ) → cross ints m U · U ≡ pos 0
 unfolding _·_
 aside-0 = solve³ 2 (λ m U. dot exprs (cross exprs m U) U ≐ num (pos 0)) tt
 
--- ---- A2, as it is used: x lies in the cone of e, b and a, and d is positive at none of these three
+-- ---- Cramer's rule, as it is used: x lies in the cone of e, b and a, and d is positive at none of these three
 
 pub cone-step : (a b e x d : Vec ℤ) → det a b e <ℤ pos 0 → det a b x ≤ℤ pos 0 → pos 0 ≤ℤ det e b x → det e a x ≤ℤ pos 0
     → d · e ≤ℤ pos 0 → d · b ≤ℤ pos 0 → d · a ≤ℤ pos 0 → d · x ≤ℤ pos 0

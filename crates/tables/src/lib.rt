@@ -7,17 +7,17 @@ ghost use Rattle.tables.specs.Tables.{Widened, facets, facetOf};
 ghost use Rattle.tables.specs.Size.{wrongLengths, wrongEnds, wrongSides, isSize, Laid};
 ghost use Rattle.tables.specs.LookUp.{lookUp};
 
-pub const LEAST_VERTICES: usize = 4;
+const LEAST_VERTICES: usize = 4;
 
 pub const MOST_VERTICES: usize = 1024;
 
-pub const LEAST_FACETS: usize = 4;
+const LEAST_FACETS: usize = 4;
 
 pub const MOST_FACETS: usize = 2048;
 
 pub const MOST_CORNERS: usize = 6144;
 
-pub const LEAST_SIDES: usize = 3;
+const LEAST_SIDES: usize = 3;
 
 pub const MOST_SIDES: usize = 12;
 

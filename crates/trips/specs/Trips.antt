@@ -32,7 +32,7 @@ use Rattle.reading.specs.Answer.{answerNumber, firstValue, secondValue, thirdVa
 use Rattle.reading.specs.Room.{noRoom}
 use Rattle.reader.specs.Answer.{reading, pointsAfter, cornersAfter, beginsAfter}
 use Rattle.reader.specs.Room.{with-room}
-use Rattle.writer.specs.Answer.{spaced, written, bufferAfter}
+use Rattle.writer.specs.Answer.{written, bufferAfter}
 use Rattle.limits.specs.InOrder.{InOrder, none-limits, laid}
 use Rattle.writer.specs.Owed.{placed}
 use Rattle.trips.specs.Taped.{Sixteen, Holds, Taped}

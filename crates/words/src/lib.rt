@@ -26,7 +26,7 @@ fn among(set: &[u8], b: u8) -> bool
 }
 
 // The end of the run of bytes, from `at` on, that are all in a set, or all outside it.
-pub fn past(text: &[u8], set: &[u8], inside: bool, at: usize) -> usize
+fn past(text: &[u8], set: &[u8], inside: bool, at: usize) -> usize
     ensures { λ r. ⌜ r ≡ pastOf (sort inside (among (now (set .entry)))) (now (text .entry)) at ⌝ }
 {
     let mut i = at;

@@ -1,6 +1,6 @@
 -- `judge::first_fault` meets its contract: a fault of the stages before REFLEX is the first of all. Assumes nothing.
 use borrow.Author.Needs.{needs}
-use mathlib.Core.Path.{_≡_, sym, _∙_}
+use mathlib.Core.Path.{sym, _∙_}
 use mathlib.Core.List.{List}
 use Rattle.answers.specs.Order.{Rule, Passes, first-append, none-append}
 use Rattle.stages.specs.Rules.{rulesToTurn}

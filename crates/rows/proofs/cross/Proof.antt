@@ -1,6 +1,5 @@
 -- `rows::cross` meets its contract. Assumes nothing.
 use borrow.Author.Needs.{needs}
-use mathlib.Core.List.{[], _∷_}
 use mir.Syntax.{w64}
 use Rattle.whole.specs.Machine.{read-within, exact-read}
 use Rattle.space.specs.Plane.{det}

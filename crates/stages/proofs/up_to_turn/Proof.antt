@@ -1,6 +1,6 @@
 -- `stages::up_to_turn` meets its contract: a fault of the limits is the first of all. Assumes nothing.
 use borrow.Author.Needs.{needs}
-use mathlib.Core.Path.{_≡_, sym, _∙_}
+use mathlib.Core.Path.{sym, _∙_}
 use mathlib.Core.List.{List}
 use Rattle.answers.specs.Order.{Rule, Passes, first-append, none-append}
 use Rattle.limits.specs.InOrder.{limitRules, limits-none}

@@ -5,9 +5,9 @@ use Prim.Native.Nat.{ℕ, suc, _<_}
 use lib.ListN.{length}
 use Rattle.tables.specs.Tables.{mostVertices, from, to}
 use Rattle.edges.specs.Chains.{Chains}
-use Rattle.edges.specs.Listed.{linkAt, only-leaving, each-leaving}
+use Rattle.shape.specs.Listed.{linkAt, only-leaving, each-leaving}
 use Rattle.pair.specs.Pair.{Paired}
 use Rattle.pair.specs.Across.{across}
 
 -- an edge leads from v to u, or from u to v
 pub data Neighbour (corners begins : List ℕ) (v u : ℕ) : Type 0 where
