@@ -11,8 +11,8 @@ use Rattle.whole.specs.Rounds.{rounds, at, only, all}
 use Rattle.tables.specs.Tables.{facets, homeOf}
 use Rattle.tables.specs.Size.{Laid}
 use Rattle.tables.specs.Places.{home}
-use Rattle.tables.specs.Found.{lowest, nowhere-is, lowest-none}
-use Rattle.tables.specs.declared.Found.{Found}
+use Rattle.tables.specs.Found.{nowhere-is}
+use Rattle.tables.specs.Search.{Search, ofEach, placeOf, applies-never}
 use Rattle.tables.specs.declared.Found.the-variants.{Nothing}
 use Rattle.edges.specs.Edge.{facetAcross}
 use Rattle.pair.specs.Pair.{Paired}
@@ -25,8 +25,8 @@ flooded corners begins = rounds (length corners) (facets begins) (homeOf begins)
 abbrev pub isApart : List ℕ → List ℕ → ℕ → Bool
 isApart corners begins f = not (at (flooded corners begins) f)
 
-abbrev pub apart : List ℕ → List ℕ → Found
-apart corners begins = lowest (facets begins) (isApart corners begins)
+abbrev pub apart : List ℕ → List ℕ → Search
+apart corners begins = ofEach (facets begins) (isApart corners begins)
 
 -- ---- the meaning
 
@@ -50,8 +50,8 @@ module _ {corners begins : List ℕ} (L : Laid corners begins) (P : Paired corne
   flooded-only e = only (length corners) (facets begins) (homeOf begins) (facetAcross corners begins) across-facet e
 
   -- APART finds nothing exactly where every facet is reached
-  pub apart-means : apart corners begins ≡ Nothing → (f : ℕ) → f < facets begins → Reached corners begins f
-  apart-means e f l = flooded-only (not-false _ (lowest-none (facets begins) (isApart corners begins) e f l))
+  pub apart-means : placeOf (apart corners begins) ≡ Nothing → (f : ℕ) → f < facets begins → Reached corners begins f
+  apart-means e f l = flooded-only (not-false _ (applies-never (apart corners begins) e f l))
 
-  pub means-apart : ((f : ℕ) → f < facets begins → Reached corners begins f) → apart corners begins ≡ Nothing
+  pub means-apart : ((f : ℕ) → f < facets begins → Reached corners begins f) → placeOf (apart corners begins) ≡ Nothing
   means-apart h = nowhere-is (λ f l. ap not (flooded-all (h f l)))

@@ -2,6 +2,7 @@
 ghost use mathlib.Core.Path.{_≡_};
 ghost use Rattle.whole.specs.Flood.{Unmarked, Pushing, Push};
 ghost use Rattle.tables.specs.Tables.{mostFacets, end};
+ghost use Rattle.tables.specs.Search.{placeOf};
 ghost use Rattle.pair.specs.Across.{Crossed};
 ghost use Rattle.apart.specs.Apart.{apart};
 ghost use Rattle.apart.specs.Flooding.{Visit, Spreading, ReachMarks};
@@ -80,7 +81,7 @@ pub fn apart(
     heads: &index::Heads,
 ) -> tables::Found
     requires { ⌜ Crossed (now corners) (now begins) (now edges) (now heads) ⌝ }
-    ensures { λ r. ⌜ r ≡ apart (now (corners .entry)) (now (begins .entry)) ⌝ }
+    ensures { λ r. ⌜ r ≡ placeOf (apart (now (corners .entry)) (now (begins .entry))) ⌝ }
 {
     let mut marks = [0u8; tables::MOST_FACETS];
     let mut queue = [0u16; tables::MOST_FACETS];

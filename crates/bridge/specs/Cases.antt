@@ -10,6 +10,7 @@ use Rattle.whole.specs.Rounds.{tab, rounds}
 use Rattle.tables.specs.Tables.{homeOf, nextOf}
 use Rattle.tables.specs.Size.{isSize}
 use Rattle.tables.specs.Places.{Sound, Single}
+use Rattle.tables.specs.Search.{placeOf}
 use Rattle.tables.specs.declared.Found.{Found}
 use Rattle.tables.specs.declared.Found.the-variants.{At, Nothing}
 use Rattle.pair.specs.Pair.{pair, Paired, pair-none}
@@ -21,9 +22,9 @@ use Rattle.apart.specs.Apart.{flooded, apart}
 
 -- what PAIR, RING and APART find
 pub record Finds (n : ℕ) (corners begins : List ℕ) (six seven eight : Found) : Type 0 where
-  pub in-pair : pair corners begins ≡ six
-  pub in-ring : ring n corners begins ≡ seven
-  pub in-apart : apart corners begins ≡ eight
+  pub in-pair : placeOf (pair corners begins) ≡ six
+  pub in-ring : placeOf (ring n corners begins) ≡ seven
+  pub in-apart : placeOf (apart corners begins) ≡ eight
 
 -- solid T
 abbrev corners : List ℕ
@@ -42,7 +43,7 @@ case-A : Finds 4 corners four Nothing Nothing Nothing
 unfolding firstBelow countBelow lastBelow iterate tab rounds homeOf nextOf acrossOf roundOf flooded
 case-A = record { in-pair = refl; in-ring = refl; in-apart = refl }
 
-case-G : pair (0 ∷ 2 ∷ 1 ∷ 0 ∷ 1 ∷ 3 ∷ 0 ∷ 3 ∷ 2 ∷ 1 ∷ 3 ∷ 2 ∷ []) four ≡ At 0 1
+case-G : placeOf (pair (0 ∷ 2 ∷ 1 ∷ 0 ∷ 1 ∷ 3 ∷ 0 ∷ 3 ∷ 2 ∷ 1 ∷ 3 ∷ 2 ∷ []) four) ≡ At 0 1
 unfolding firstBelow countBelow lastBelow homeOf nextOf
 case-G = refl
 

@@ -13,6 +13,7 @@ use Rattle.tables.specs.Tables.{begin, homeOf, nextOf, from, to}
 use Rattle.tables.specs.Places.{Sound, Single, next-below, next-home}
 use Rattle.names.specs.Rules.{repeat, unused}
 use Rattle.tables.specs.Found.{nowhere-is}
+use Rattle.tables.specs.Search.{placeOf}
 use Rattle.tables.specs.declared.Found.the-variants.{Nothing}
 use Rattle.pair.specs.Pair.{pair, Paired, pair-none}
 use Rattle.edges.specs.Edge.{acrossOf, facetAcross}
@@ -27,11 +28,11 @@ use Rattle.bridge.specs.Surface.{tablesOf, Names, Runs, place-names, pla
 
 -- numbers 4 to 8 find nothing
 pub record Shut (n : ℕ) (corners begins : List ℕ) : Type 0 where
-  pub no-4 : repeat corners begins ≡ Nothing
-  pub no-5 : unused n corners ≡ Nothing
-  pub no-6 : pair corners begins ≡ Nothing
-  pub no-7 : ring n corners begins ≡ Nothing
-  pub no-8 : apart corners begins ≡ Nothing
+  pub no-4 : placeOf (repeat corners begins) ≡ Nothing
+  pub no-5 : placeOf (unused n corners) ≡ Nothing
+  pub no-6 : placeOf (pair corners begins) ≡ Nothing
+  pub no-7 : placeOf (ring n corners begins) ≡ Nothing
+  pub no-8 : placeOf (apart corners begins) ≡ Nothing
 
 module _ (points : List ℤ) {corners begins : List ℕ} (S : Sound (vertices points) corners begins) where
   open Sound S using (laid)

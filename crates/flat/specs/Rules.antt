@@ -12,7 +12,7 @@ use Rattle.whole.specs.First.{firstBelow, NoneYet, yet-0, yet-more, yet-hit}
 use Rattle.sides.specs.Sides.{sideOf, inLine, isOn}
 use Rattle.sides.specs.declared.Side.{Side}
 use Rattle.tables.specs.Facets.{inFacets}
-use Rattle.tables.specs.declared.Found.{Found}
+use Rattle.tables.specs.Search.{Search}
 use Rattle.flat.specs.Facet.{Facet}
 
 -- "A facet's plane comes from its first three corners a, b, c"
@@ -25,7 +25,7 @@ isBent points part p =
     cond (ltb p 2) false
     (cond (eqb p 2) (inLine points (getD part 0 0) (getD part 1 0) (getD part 2 0)) (not (isOn (sideAt points part (getD part p 0)))))
 
-abbrev pub bent : List ℤ → List ℕ → List ℕ → Found
+abbrev pub bent : List ℤ → List ℕ → List ℕ → Search
 bent points corners begins = inFacets corners begins (isBent points)
 
 -- ---- BENT at each position

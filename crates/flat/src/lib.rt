@@ -4,6 +4,7 @@ ghost use Prim.Native.Nat.{_<_};
 ghost use lib.ListN.{length};
 ghost use Rattle.whole.specs.First.{firstBelow};
 ghost use Rattle.points.specs.Points.{Vertex};
+ghost use Rattle.tables.specs.Search.{placeOf};
 ghost use Rattle.flat.specs.Facet.{Facet, Measured, cornerAfter};
 ghost use Rattle.flat.specs.Rules.{sideAt, isBent, bent};
 
@@ -48,7 +49,7 @@ fn first_bent(points: &[i32], part: &[u16]) -> usize
 // Number 9, BENT: its first place.
 pub fn bent(points: &[i32], corners: &[u16], begins: &[u16]) -> tables::Found
     requires { ⌜ Measured (now points) (now corners) (now begins) ⌝ }
-    ensures { λ r. ⌜ r ≡ bent (now (points .entry)) (now (corners .entry)) (now (begins .entry)) ⌝ }
+    ensures { λ r. ⌜ r ≡ placeOf (bent (now (points .entry)) (now (corners .entry)) (now (begins .entry))) ⌝ }
 {
     let m = begins.len() - 1;
     let mut f = 0;

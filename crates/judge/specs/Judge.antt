@@ -2,23 +2,20 @@
 use mathlib.Core.List.{List, [], _∷_, _++_}
 use Prim.Native.Nat.{ℕ}
 use lib.IntN.{ℤ}
-use Rattle.points.specs.Points.{vertices}
-use Rattle.tables.specs.Tables.{facets, sides}
-use Rattle.tables.specs.Facets.{onFacets}
 use Rattle.answers.specs.Answer.{answerOf}
-use Rattle.answers.specs.Order.{Rule, rule, ofPlaces, firstOf}
+use Rattle.answers.specs.Order.{Rule, rule, firstOf}
 use Rattle.answers.specs.declared.Answer.{Answer}
 use Rattle.stages.specs.Rules.{rulesToTurn}
-use Rattle.reflex.specs.Rules.{isReflex}
-use Rattle.scan.specs.Rules.{isOutside}
+use Rattle.reflex.specs.Rules.{reflex}
+use Rattle.scan.specs.Rules.{outside}
 
 abbrev pub rules : List ℤ → List ℕ → List ℕ → List Rule
 rules points corners begins =
     rulesToTurn points corners begins
     -- "some corner of the facet across this edge, other than the edge's ends, isn't strictly inside this facet's plane"
-    ++ rule 11 (ofPlaces (facets begins) (sides begins) (isReflex points corners begins))
+    ++ rule 11 (reflex points corners begins)
     -- "a vertex that isn't a corner of the facet isn't strictly inside its plane"
-    ∷ rule 12 (ofPlaces (facets begins) (λ f. vertices points) (onFacets corners begins (isOutside points)))
+    ∷ rule 12 (outside points corners begins)
     ∷ []
 
 -- "The lowest number that applies anywhere in the tables wins. Within it, the first place wins"; "accepted: none below applies: V, E, F"

@@ -4,6 +4,7 @@ use mathlib.Core.List.{List}
 use mathlib.Core.Bool.{true}
 use Prim.Native.Nat.{ℕ}
 use lib.IntN.{ℤ}
+use Rattle.tables.specs.Search.{placeOf}
 use Rattle.tables.specs.declared.Found.the-variants.{Nothing}
 use Rattle.answers.specs.Answer.{faultNumber}
 use Rattle.answers.specs.Order.{Passes, placeFor, none-for, firstOf, numbered, number-0}
@@ -32,7 +33,7 @@ module _ (points : List ℤ) (corners begins : List ℕ) (P : Passes (rulesToTur
   flat-after = flat points (measured-after points corners begins P .sound .laid) (none 9) (none 10)
 
   -- and REFLEX
-  pub passed-after : reflex points corners begins ≡ Nothing → Passed points corners begins
+  pub passed-after : placeOf (reflex points corners begins) ≡ Nothing → Passed points corners begins
   passed-after e =
       let m = measured-after points corners begins P in
       record {

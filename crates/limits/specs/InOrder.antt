@@ -5,26 +5,25 @@ use mathlib.Core.List.{List, [], _∷_}
 use Prim.Native.Nat.{ℕ}
 use lib.IntN.{ℤ}
 use Rattle.points.specs.Points.{vertices}
-use Rattle.tables.specs.Tables.{facets, sides}
 use Rattle.tables.specs.Size.{isSize, Laid, sized}
-use Rattle.tables.specs.Facets.{onFacets}
+use Rattle.tables.specs.Search.{ofAll, placeOf, applies-never, never-applies}
 use Rattle.tables.specs.declared.Found.the-variants.{Nothing}
-use Rattle.answers.specs.Order.{Rule, rule, ofAll, ofEach, ofPlaces, Passes, passes-none, first-after, none-for, applies-never, never-applies}
-use Rattle.limits.specs.Rules.{outOfRange, wild, range, index}
+use Rattle.answers.specs.Order.{Rule, rule, Passes, passes-none, first-after, none-for}
+use Rattle.limits.specs.Rules.{range, index}
 
 -- "points not in threes; V, F or corners outside limits; begins don't start at 0, end at the run's length, or give a facet fewer than 3 or more
 -- than 12 corners"; "a coordinate is outside its limits"; "a corner number is V or more"
 abbrev pub limitRules : List ℤ → List ℕ → List ℕ → List Rule
 limitRules points corners begins =
     rule 1 (ofAll (isSize points corners begins))
-    ∷ rule 2 (ofEach (vertices points) (outOfRange points))
-    ∷ rule 3 (ofPlaces (facets begins) (sides begins) (onFacets corners begins (wild (vertices points))))
+    ∷ rule 2 (range points)
+    ∷ rule 3 (index (vertices points) corners begins)
     ∷ []
 
 pub record InOrder (points : List ℤ) (corners begins : List ℕ) : Type 0 where
   pub sizes : isSize points corners begins ≡ false
-  pub ranges : range points ≡ Nothing
-  pub numbers : index (vertices points) corners begins ≡ Nothing
+  pub ranges : placeOf (range points) ≡ Nothing
+  pub numbers : placeOf (index (vertices points) corners begins) ≡ Nothing
 
 -- exactly such tables pass
 pub limits-none : (points : List ℤ) (corners begins : List ℕ) → Passes (limitRules points corners begins) → InOrder points corners begins

@@ -6,6 +6,7 @@ ghost use Rattle.whole.specs.First.{firstBelow};
 ghost use Rattle.points.specs.Points.{Vertex};
 ghost use Rattle.answers.specs.Order.{firstOf};
 ghost use Rattle.tables.specs.Size.{Laid};
+ghost use Rattle.tables.specs.Search.{placeOf};
 ghost use Rattle.limits.specs.Rules.{outOfRange, range, wild, index};
 ghost use Rattle.limits.specs.InOrder.{limitRules};
 
@@ -25,7 +26,7 @@ fn out_of_range(points: &[i32], v: usize) -> bool
 
 // Number 2, RANGE: its first place.
 fn range(points: &[i32]) -> tables::Found
-    ensures { λ r. ⌜ r ≡ range (now (points .entry)) ⌝ }
+    ensures { λ r. ⌜ r ≡ placeOf (range (now (points .entry))) ⌝ }
 {
     let n = points.len() / 3;
     let mut v = 0;
@@ -55,7 +56,7 @@ fn first_wild(part: &[u16], n: usize) -> usize
 // Number 3, INDEX: its first place; n is V.
 fn index(corners: &[u16], begins: &[u16], n: usize) -> tables::Found
     requires { ⌜ Laid (now corners) (now begins) ⌝ }
-    ensures { λ r. ⌜ r ≡ index n (now (corners .entry)) (now (begins .entry)) ⌝ }
+    ensures { λ r. ⌜ r ≡ placeOf (index n (now (corners .entry)) (now (begins .entry))) ⌝ }
 {
     let m = begins.len() - 1;
     let mut f = 0;

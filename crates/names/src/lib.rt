@@ -7,6 +7,7 @@ ghost use Rattle.tables.specs.Tables.{mostVertices};
 ghost use Rattle.names.specs.Rules.{isAt, again, repeat, unused};
 ghost use Rattle.tables.specs.Size.{Laid};
 ghost use Rattle.tables.specs.Places.{Named};
+ghost use Rattle.tables.specs.Search.{placeOf};
 ghost use Rattle.names.specs.Marks.{Marks};
 
 // The first position below n at which v stands, or n.
@@ -41,7 +42,7 @@ fn first_again(part: &[u16]) -> usize
 // Number 4, REPEAT: its first place.
 pub fn repeat(corners: &[u16], begins: &[u16]) -> tables::Found
     requires { ⌜ Laid (now corners) (now begins) ⌝ }
-    ensures { λ r. ⌜ r ≡ repeat (now (corners .entry)) (now (begins .entry)) ⌝ }
+    ensures { λ r. ⌜ r ≡ placeOf (repeat (now (corners .entry)) (now (begins .entry))) ⌝ }
 {
     let m = begins.len() - 1;
     let mut f = 0;
@@ -73,7 +74,7 @@ fn marks(corners: &[u16]) -> [u8; tables::MOST_VERTICES]
 // Number 5, UNUSED: its first place, in one pass over the run and one over the vertices.
 pub fn unused(corners: &[u16], n: usize) -> tables::Found
     requires { ⌜ Named n (now corners) ⌝ }
-    ensures { λ r. ⌜ r ≡ unused n (now (corners .entry)) ⌝ }
+    ensures { λ r. ⌜ r ≡ placeOf (unused n (now (corners .entry))) ⌝ }
 {
     let named = marks(corners);
     let mut vertex = 0;

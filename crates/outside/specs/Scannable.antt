@@ -5,6 +5,7 @@ use mathlib.Core.List.{List}
 use Prim.Native.Nat.{ℕ}
 use lib.IntN.{ℤ}
 use borrow.Author.Tests.{not-true}
+use Rattle.tables.specs.Search.{placeOf}
 use Rattle.tables.specs.declared.Found.the-variants.{Nothing}
 use Rattle.edges.specs.Index.{Indexed}
 use Rattle.scan.specs.Rules.{outside}
@@ -17,5 +18,5 @@ pub record Scannable (points : List ℤ) (corners begins : List ℕ) (edges : Li
 
 -- as the code says it: t is what the local test answers
 pub passed-over : {points : List ℤ} {corners begins : List ℕ} {edges : List (List ℕ)} {heads : List ℕ} {t : Bool} → Scannable points corners begins edges heads
-    → t ≡ near points corners begins → not t ≡ true → Nothing ≡ outside points corners begins
+    → t ≡ near points corners begins → not t ≡ true → Nothing ≡ placeOf (outside points corners begins)
 passed-over R is e = sym (near-enough (R .passed) (sym is ∙ not-true _ e))

@@ -1,5 +1,6 @@
 // Number 12, OUTSIDE: by the look at the neighbours where that finds nothing, else by the scan.
 ghost use mathlib.Core.Path.{_≡_};
+ghost use Rattle.tables.specs.Search.{placeOf};
 ghost use Rattle.scan.specs.Rules.{outside};
 ghost use Rattle.outside.specs.Scannable.{Scannable};
 
@@ -15,7 +16,7 @@ pub fn outside(
     heads: &index::Heads,
 ) -> tables::Found
     requires { ⌜ Scannable (now points) (now corners) (now begins) (now edges) (now heads) ⌝ }
-    ensures { λ r. ⌜ r ≡ outside (now (points .entry)) (now (corners .entry)) (now (begins .entry)) ⌝ }
+    ensures { λ r. ⌜ r ≡ placeOf (outside (now (points .entry)) (now (corners .entry)) (now (begins .entry))) ⌝ }
 {
     if MOST_SCANNED < points.len() / 3 {
         if !near::near(points, corners, begins, edges, heads) {

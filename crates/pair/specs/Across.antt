@@ -12,6 +12,7 @@ use Rattle.whole.specs.Orbit.{cover}
 use Rattle.tables.specs.Tables.{mostCorners, homeOf, nextOf, from, to}
 use Rattle.tables.specs.Size.{Laid}
 use Rattle.tables.specs.Places.{Single, next-below, next-home, next-next-not}
+use Rattle.tables.specs.Search.{placeOf}
 use Rattle.tables.specs.declared.Found.the-variants.{Nothing}
 use Rattle.index.specs.Entries.{homeAt, acrossAt}
 use Rattle.edges.specs.Edge.{isEdge, lastEdge, acrossOf, facetAcross}
@@ -118,10 +119,10 @@ module _ {corners begins : List ℕ} (M : Matched corners begins) where
           in
           rw (le-ltb 1 (times corners begins a b) (few a b), eq-eqb _ _ n)
 
-pub pair-means : {corners begins : List ℕ} → Laid corners begins → pair corners begins ≡ Nothing → Matched corners begins
+pub pair-means : {corners begins : List ℕ} → Laid corners begins → placeOf (pair corners begins) ≡ Nothing → Matched corners begins
 pair-means L e = matched (pair-none L e)
 
-pub means-pair : {corners begins : List ℕ} → Laid corners begins → Matched corners begins → pair corners begins ≡ Nothing
+pub means-pair : {corners begins : List ℕ} → Laid corners begins → Matched corners begins → placeOf (pair corners begins) ≡ Nothing
 means-pair L M = paired-none L (paired-if M)
 
 -- ---- what the index holds where PAIR applies nowhere

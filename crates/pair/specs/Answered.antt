@@ -10,6 +10,7 @@ use Rattle.whole.specs.First.{anyBelow, any-false}
 use Rattle.whole.specs.Count.{neither}
 use Rattle.tables.specs.Tables.{from, to}
 use Rattle.tables.specs.Size.{Laid}
+use Rattle.tables.specs.Search.{placeOf}
 use Rattle.tables.specs.declared.Found.the-variants.{Nothing}
 use Rattle.index.specs.Entries.{endAt, acrossAt}
 use Rattle.edges.specs.Edge.{acrossOf, across-below}
@@ -55,5 +56,5 @@ module _ {corners begins : List ℕ} (h : anyBelow (unanswered corners begins) (
     reverse = λ p l. (_, answered l .0);
   }
 
-  pub all-answered : Laid corners begins → pair corners begins ≡ Nothing
+  pub all-answered : Laid corners begins → placeOf (pair corners begins) ≡ Nothing
   all-answered L = means-pair L matched

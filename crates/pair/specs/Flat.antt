@@ -10,8 +10,8 @@ use Rattle.whole.specs.First.{Nowhere, Lowest}
 use Rattle.tables.specs.Tables.{facets, begin, sides, cornerOf, homeOf, from}
 use Rattle.tables.specs.Size.{Laid}
 use Rattle.tables.specs.Places.{home, home-is, home-rise, corner-at, place-in, place-below}
-use Rattle.tables.specs.Found.{firstPlace, first-is, no-place-is, first-none}
-use Rattle.tables.specs.declared.Found.{Found}
+use Rattle.tables.specs.Found.{first-is, no-place-is}
+use Rattle.tables.specs.Search.{Search, ofPlaces, placeOf, applies-never}
 use Rattle.tables.specs.declared.Found.the-variants.{At, Nothing}
 
 -- place p is position `at` of its facet
@@ -31,9 +31,9 @@ position {corners} {begins} L {p} l =
     let e : begin begins f + (p - begin begins f) ≡ p = omega (arith, i .low) in
     record { at = p - begin begins f; facet = m; side = h; is = e; corner = corner-at L m h ∙ ap (from corners) e }
 
--- the first position, facet by facet, at whose place the test holds
-abbrev pub byFacets : List ℕ → (ℕ → Bool) → Found
-byFacets begins test = firstPlace (facets begins) (sides begins) (λ f p. test (begin begins f + p))
+-- at each place, facet by facet
+abbrev pub byFacets : List ℕ → (ℕ → Bool) → Search
+byFacets begins test = ofPlaces (facets begins) (sides begins) (λ f p. test (begin begins f + p))
 
 -- the places of an earlier facet are earlier
 early : {corners begins : List ℕ} {p : ℕ} (L : Laid corners begins) (g q : ℕ) → p < length corners → g < homeOf begins p
@@ -46,7 +46,7 @@ early {begins = begins} {p = p} L g q l k h =
     ]
 
 module _ {corners begins : List ℕ} (L : Laid corners begins) (test : ℕ → Bool) where
-  pub flat-hit : {p : ℕ} → Lowest test (length corners) p → At (homeOf begins p) (p - begin begins (homeOf begins p)) ≡ byFacets begins test
+  pub flat-hit : {p : ℕ} → Lowest test (length corners) p → At (homeOf begins p) (p - begin begins (homeOf begins p)) ≡ placeOf (byFacets begins test)
   flat-hit {p} w =
       let o = position L (w .below) in
       let z : p - begin begins (homeOf begins p) ≡ o .at = omega (arith, o .is) in
@@ -56,10 +56,10 @@ module _ {corners begins : List ℕ} (L : Laid corners begins) (test : ℕ → B
         earlier = λ g q k h. w .before _ (early L g q (w .below) k h);
       }))
 
-  pub flat-none : Nowhere test (length corners) → byFacets begins test ≡ Nothing
+  pub flat-none : Nowhere test (length corners) → placeOf (byFacets begins test) ≡ Nothing
   flat-none h = no-place-is (λ f p l k. h _ (place-below L l k))
 
-  pub none-flat : byFacets begins test ≡ Nothing → Nowhere test (length corners)
+  pub none-flat : placeOf (byFacets begins test) ≡ Nothing → Nowhere test (length corners)
   none-flat e p l =
       let o = position L l in
-      rw (o .is) at (first-none (facets begins) (sides begins) (λ f p. test (begin begins f + p)) e (homeOf begins p) (o .at) (o .facet) (o .side))
+      rw (o .is) at (applies-never (byFacets begins test) e (homeOf begins p) (o .at) (o .facet) (o .side))

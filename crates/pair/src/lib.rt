@@ -6,6 +6,7 @@ ghost use lib.ListN.{length};
 ghost use Rattle.whole.specs.First.{anyBelow};
 ghost use Rattle.whole.specs.Count.{bit};
 ghost use Rattle.tables.specs.Tables.{mostVertices};
+ghost use Rattle.tables.specs.Search.{placeOf};
 ghost use Rattle.edges.specs.Index.{Leaving, Indexed};
 ghost use Rattle.pair.specs.Pair.{times, unpaired, pair};
 ghost use Rattle.pair.specs.Answered.{unanswered};
@@ -113,7 +114,7 @@ fn first_unpaired(
     heads: &index::Heads,
 ) -> tables::Found
     requires { ⌜ Indexed (now corners) (now begins) (now edges) (now heads) ⌝ }
-    ensures { λ r. ⌜ r ≡ pair (now (corners .entry)) (now (begins .entry)) ⌝ }
+    ensures { λ r. ⌜ r ≡ placeOf (pair (now (corners .entry)) (now (begins .entry))) ⌝ }
 {
     let mut p = 0;
     while p < corners.len() {
@@ -134,7 +135,7 @@ pub fn pair(
     heads: &index::Heads,
 ) -> tables::Found
     requires { ⌜ Indexed (now corners) (now begins) (now edges) (now heads) ⌝ }
-    ensures { λ r. ⌜ r ≡ pair (now (corners .entry)) (now (begins .entry)) ⌝ }
+    ensures { λ r. ⌜ r ≡ placeOf (pair (now (corners .entry)) (now (begins .entry))) ⌝ }
 {
     if some_unanswered(corners, begins, edges, heads) {
         return first_unpaired(corners, begins, edges, heads);

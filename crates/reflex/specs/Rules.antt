@@ -8,8 +8,7 @@ use lib.ListN.{length, getD}
 use Rattle.whole.specs.First.{anyBelow}
 use Rattle.sides.specs.Sides.{isInside}
 use Rattle.tables.specs.Tables.{facets, begin, sides, facetOf}
-use Rattle.tables.specs.Found.{firstPlace}
-use Rattle.tables.specs.declared.Found.{Found}
+use Rattle.tables.specs.Search.{Search, ofPlaces}
 use Rattle.edges.specs.Edge.{facetAcross}
 use Rattle.flat.specs.Facet.{cornerAfter}
 use Rattle.flat.specs.Rules.{sideAt}
@@ -30,5 +29,5 @@ unfoldable pub isReflex : List ℤ → List ℕ → List ℕ → ℕ → ℕ →
 isReflex points corners begins f p =
     reflexAt points (facetOf corners begins f) (facetOf corners begins (facetAcross corners begins (begin begins f + p))) p
 
-abbrev pub reflex : List ℤ → List ℕ → List ℕ → Found
-reflex points corners begins = firstPlace (facets begins) (sides begins) (isReflex points corners begins)
+abbrev pub reflex : List ℤ → List ℕ → List ℕ → Search
+reflex points corners begins = ofPlaces (facets begins) (sides begins) (isReflex points corners begins)

@@ -5,6 +5,7 @@ ghost use lib.ListN.{length};
 ghost use Rattle.whole.specs.First.{firstBelow};
 ghost use Rattle.points.specs.Points.{Vertex};
 ghost use Rattle.tables.specs.Tables.{facets, sides, facetOf};
+ghost use Rattle.tables.specs.Search.{placeOf};
 ghost use Rattle.edges.specs.Edge.{facetAcross};
 ghost use Rattle.pair.specs.Across.{Crossed};
 ghost use Rattle.flat.specs.Facet.{Facet};
@@ -99,7 +100,7 @@ pub fn reflex(
     heads: &index::Heads,
 ) -> tables::Found
     requires { ⌜ Foldable (now points) (now corners) (now begins) (now edges) (now heads) ⌝ }
-    ensures { λ r. ⌜ r ≡ reflex (now (points .entry)) (now (corners .entry)) (now (begins .entry)) ⌝ }
+    ensures { λ r. ⌜ r ≡ placeOf (reflex (now (points .entry)) (now (corners .entry)) (now (begins .entry))) ⌝ }
 {
     let m = begins.len() - 1;
     let mut f = 0;

@@ -15,8 +15,8 @@ use Rattle.whole.specs.Count.{is-false, countBelow, count-but, last, some-last}
 use Rattle.whole.specs.Orbit.{iterate, Steps, NoReturn, reached, missed, return-first}
 use Rattle.tables.specs.Tables.{from}
 use Rattle.tables.specs.Size.{Laid}
-use Rattle.tables.specs.Found.{lowest, nowhere-is, lowest-none}
-use Rattle.tables.specs.declared.Found.{Found}
+use Rattle.tables.specs.Found.{nowhere-is}
+use Rattle.tables.specs.Search.{Search, ofEach, placeOf, applies-never}
 use Rattle.tables.specs.declared.Found.the-variants.{Nothing}
 use Rattle.edges.specs.Chains.{leaves, lastOf}
 use Rattle.pair.specs.Pair.{Paired}
@@ -37,8 +37,8 @@ isBack corners begins p i = eqb (iterate (roundOf corners begins) (i + 1) p) p
 abbrev pub broken : List ℕ → List ℕ → ℕ → Bool
 broken corners begins v = anyBelow (isBack corners begins (start corners v)) (degree corners v - 1)
 
-abbrev pub ring : ℕ → List ℕ → List ℕ → Found
-ring n corners begins = lowest n (broken corners begins)
+abbrev pub ring : ℕ → List ℕ → List ℕ → Search
+ring n corners begins = ofEach n (broken corners begins)
 
 -- ---- the meaning
 
@@ -140,8 +140,8 @@ module _ {corners begins : List ℕ} (L : Laid corners begins) (P : Paired corne
 -- ---- RING finds nothing exactly where the facets at each vertex make one ring
 
 module _ {corners begins : List ℕ} (L : Laid corners begins) (P : Paired corners begins) (n : ℕ) where
-  pub ring-means : ring n corners begins ≡ Nothing → (v : ℕ) → v < n → OneRing corners begins v
-  ring-means e v l = one-ring L P v (lowest-none n (broken corners begins) e v l)
+  pub ring-means : placeOf (ring n corners begins) ≡ Nothing → (v : ℕ) → v < n → OneRing corners begins v
+  ring-means e v l = one-ring L P v (applies-never (ring n corners begins) e v l)
 
-  pub means-ring : ((v : ℕ) → v < n → OneRing corners begins v) → ring n corners begins ≡ Nothing
+  pub means-ring : ((v : ℕ) → v < n → OneRing corners begins v) → placeOf (ring n corners begins) ≡ Nothing
   means-ring h = nowhere-is (λ v l. ring-one L P v (h v l))

@@ -3,6 +3,7 @@ ghost use mathlib.Core.Path.{_≡_};
 ghost use Prim.Native.Nat.{_≤_, _<_};
 ghost use lib.ListN.{length};
 ghost use Rattle.tables.specs.Tables.{mostVertices};
+ghost use Rattle.tables.specs.Search.{placeOf};
 ghost use Rattle.pair.specs.Across.{Crossed};
 ghost use Rattle.ring.specs.Step.{roundOf};
 ghost use Rattle.ring.specs.Ring.{broken, ring};
@@ -62,7 +63,7 @@ pub fn ring(
 ) -> tables::Found
     requires { ⌜ Crossed (now corners) (now begins) (now edges) (now heads) ⌝ }
     requires { ⌜ n ≤ mostVertices ⌝ }
-    ensures { λ r. ⌜ r ≡ ring n (now (corners .entry)) (now (begins .entry)) ⌝ }
+    ensures { λ r. ⌜ r ≡ placeOf (ring n (now (corners .entry)) (now (begins .entry))) ⌝ }
 {
     let mut v = 0;
     while v < n {

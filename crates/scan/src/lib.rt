@@ -4,6 +4,7 @@ ghost use Prim.Native.Nat.{_≤_};
 ghost use Rattle.whole.specs.First.{firstBelow};
 ghost use Rattle.points.specs.Points.{vertices, Vertex};
 ghost use Rattle.tables.specs.Tables.{mostVertices};
+ghost use Rattle.tables.specs.Search.{placeOf};
 ghost use Rattle.flat.specs.Facet.{Facet, Measured};
 ghost use Rattle.scan.specs.Rules.{isOutside, outside};
 
@@ -37,7 +38,7 @@ fn first_outside(points: &[i32], part: &[u16]) -> usize
 // The first place of OUTSIDE.
 pub fn scan(points: &[i32], corners: &[u16], begins: &[u16]) -> tables::Found
     requires { ⌜ Measured (now points) (now corners) (now begins) ⌝ }
-    ensures { λ r. ⌜ r ≡ outside (now (points .entry)) (now (corners .entry)) (now (begins .entry)) ⌝ }
+    ensures { λ r. ⌜ r ≡ placeOf (outside (now (points .entry)) (now (corners .entry)) (now (begins .entry))) ⌝ }
 {
     let n = points.len() / 3;
     let m = begins.len() - 1;

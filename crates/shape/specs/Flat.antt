@@ -21,7 +21,8 @@ use Rattle.sides.specs.Sides.{on-zero, zero-on}
 use Rattle.tables.specs.Tables.{facets, sides, facetOf, cornerOf, nextPosition}
 use Rattle.tables.specs.Size.{Laid}
 use Rattle.tables.specs.Places.{part-length, sides-some}
-use Rattle.tables.specs.Found.{first-none, no-place-is}
+use Rattle.tables.specs.Found.{no-place-is}
+use Rattle.tables.specs.Search.{placeOf, applies-never}
 use Rattle.tables.specs.declared.Found.the-variants.{Nothing}
 use Rattle.flat.specs.Rules.{isBent, bent, bent-later, bent-third, no-bend}
 use Rattle.turn.specs.Rules.{normalIn, strays, isTurn, turn}
@@ -84,11 +85,11 @@ module _ (points : List ℤ) {corners begins : List ℕ} (L : Laid corners begin
     unfolding isTurn
     turned-if i h = any-none _ (length (facetOf corners begins f)) (λ j k. rw (next-is f i l) (h j (rw (part-length L l) at k)))
 
-  pub flat : bent points corners begins ≡ Nothing → turn points corners begins ≡ Nothing → Flat t
+  pub flat : placeOf (bent points corners begins) ≡ Nothing → placeOf (turn points corners begins) ≡ Nothing → Flat t
   unfolding normal
   flat b u =
-      let B = first-none (facets begins) (sides begins) (λ f. isBent points (facetOf corners begins f)) b in
-      let U = first-none (facets begins) (sides begins) (λ f. isTurn points (facetOf corners begins f)) u in
+      let B = applies-never (bent points corners begins) b in
+      let U = applies-never (turn points corners begins) u in
       record {
         not-in-line = λ f l. not-line f l (B f 2 l (omega (arith, sides-some L l)));
         on-plane = λ {f} {i} p h. on-zero _ (not-false _ (sym (bent-later points (facetOf corners begins f) h) ∙ B f i (p .facet) (p .position)));
@@ -96,11 +97,11 @@ module _ (points : List ℤ) {corners begins : List ℕ} (L : Laid corners begin
             above-zero _ (other-than _ _ _ _ (turned f (p .facet) i j (U f i (p .facet) (p .position)) (q .position)) ca cb);
       }
 
-  pub flat-bent : Flat t → bent points corners begins ≡ Nothing
+  pub flat-bent : Flat t → placeOf (bent points corners begins) ≡ Nothing
   flat-bent F = no-place-is (λ f p l h. no-bend points (facetOf corners begins f) (line-not f l (F .not-in-line f l))
       (λ q k m. zero-on (F .on-plane {i = q} (record { facet = l; position = rw (part-length L l) at m }) k)) p (rw (part-length L l) h))
 
-  pub flat-turn : Flat t → turn points corners begins ≡ Nothing
+  pub flat-turn : Flat t → placeOf (turn points corners begins) ≡ Nothing
   unfolding normal
   flat-turn F = no-place-is (λ f p l h. turned-if f l p (λ j k. passed _ _ _ _ (λ ca cb.
       true-ltZ (F .turn {i = p} {j = j} (record { facet = l; position = h }) (record { facet = l; position = k }) ca cb))))

@@ -11,7 +11,8 @@ use Rattle.sides.specs.Sides.{inside-below, below-inside}
 use Rattle.tables.specs.Tables.{facets, begin, sides, facetOf, cornerOf, homeOf, from, to}
 use Rattle.tables.specs.Size.{Laid}
 use Rattle.tables.specs.Places.{part-length, place-in, home, home-is}
-use Rattle.tables.specs.Found.{first-none, no-place-is}
+use Rattle.tables.specs.Found.{no-place-is}
+use Rattle.tables.specs.Search.{placeOf, applies-never}
 use Rattle.tables.specs.declared.Found.the-variants.{Nothing}
 use Rattle.edges.specs.Edge.{acrossOf, facetAcross}
 use Rattle.pair.specs.Pair.{Paired}
@@ -72,9 +73,9 @@ module _ (points : List ℤ) {corners begins : List ℕ} (L : Laid corners begin
     facing-none f i l e g k s m h =
         rw (next-is points L f i l) at (any-false _ (length (facetOf corners begins g)) (rw s at e) m (omega (arith, part-length L k)))
 
-    pub no-reflex : reflex points corners begins ≡ Nothing → Reflex t
+    pub no-reflex : placeOf (reflex points corners begins) ≡ Nothing → Reflex t
     no-reflex e =
-        let R = first-none (facets begins) (sides begins) (isReflex points corners begins) e in
+        let R = applies-never (reflex points corners begins) e in
         record {
           reflex = λ {f} {i} {g} {j} {m} p q s z k ca cb.
               let h = R f i (p .facet) (p .position) in
@@ -82,7 +83,7 @@ module _ (points : List ℤ) {corners begins : List ℕ} (L : Laid corners begin
               inside-below _ (other-than _ _ _ _ (facing-none f i (p .facet) h g (q .facet) b m (k .position)) ca cb);
         }
 
-    pub reflex-none : Reflex t → reflex points corners begins ≡ Nothing
+    pub reflex-none : Reflex t → placeOf (reflex points corners begins) ≡ Nothing
     unfolding isReflex
     reflex-none R = no-place-is (λ f i l h.
         let p : Place t f i = record { facet = l; position = h } in

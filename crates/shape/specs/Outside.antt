@@ -9,13 +9,13 @@ use lib.ListN.{length}
 use borrow.Author.Tests.{eqb-true, eq-eqb, ltb-true}
 use Rattle.whole.specs.First.{firstBelow, anyBelow, any-is, first-holds}
 use Rattle.whole.specs.Count.{is-false}
-use Rattle.points.specs.Points.{vertices}
 use Rattle.sides.specs.Sides.{inside-below, below-inside}
 use Rattle.tables.specs.Tables.{facets, facetOf}
 use Rattle.names.specs.Rules.{isAt}
 use Rattle.tables.specs.Size.{Laid}
 use Rattle.tables.specs.Places.{part-length}
-use Rattle.tables.specs.Found.{first-none, no-place-is}
+use Rattle.tables.specs.Found.{no-place-is}
+use Rattle.tables.specs.Search.{placeOf, applies-never}
 use Rattle.tables.specs.declared.Found.the-variants.{Nothing}
 use Rattle.bridge.specs.Surface.{tablesOf}
 use Rattle.solid.specs.Tables.{Tables, Corner, Outside, Inside}
@@ -64,10 +64,10 @@ module _ (points : List ℤ) {corners begins : List ℕ} (L : Laid corners begin
     unfolding isOutside named?
     not-outside h = unseen _ (named? f w) (λ s. below-inside (h (λ c. true≢false (sym (of-corner c) ∙ s))))
 
-  pub inside : outside points corners begins ≡ Nothing → Outside t
+  pub inside : placeOf (outside points corners begins) ≡ Nothing → Outside t
   inside e =
-      let none = first-none (facets begins) (λ f. vertices points) (λ f. isOutside points (facetOf corners begins f)) e in
+      let none = applies-never (outside points corners begins) e in
       record { inside = λ f w l k. inside-of f w l (none f w l k) }
 
-  pub inside-outside : Outside t → outside points corners begins ≡ Nothing
+  pub inside-outside : Outside t → placeOf (outside points corners begins) ≡ Nothing
   inside-outside O = no-place-is (λ f w l k. not-outside f w l (O .inside f w l k))

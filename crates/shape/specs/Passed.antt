@@ -10,10 +10,9 @@ use borrow.Author.Tests.{ltb-true, ltb-false}
 use Rattle.whole.specs.First.{firstBelow, any-false, first-holds}
 use Rattle.whole.specs.Count.{lastBelow, last as lastPlace, both}
 use Rattle.points.specs.Range.{limit}
-use Rattle.points.specs.Points.{vertices}
 use Rattle.tables.specs.Tables.{facets, begin, facetOf, cornerOf, from, to}
 use Rattle.tables.specs.Places.{part-length, next-below}
-use Rattle.tables.specs.Found.{first-none}
+use Rattle.tables.specs.Search.{placeOf, applies-never}
 use Rattle.tables.specs.declared.Found.the-variants.{Nothing}
 use Rattle.edges.specs.Chains.{leaves}
 use Rattle.flat.specs.Facet.{Measured}
@@ -69,7 +68,7 @@ module _ {points : List ℤ} {corners begins : List ℕ} (M : Measured points co
 
 -- so OUTSIDE finds nothing where the local test finds nothing
 pub near-enough : {points : List ℤ} {corners begins : List ℕ} → Passed points corners begins → near points corners begins ≡ false
-    → outside points corners begins ≡ Nothing
+    → placeOf (outside points corners begins) ≡ Nothing
 near-enough {points} p e =
     let m = p .measured in
     inside-outside points (m .sound .laid)
@@ -77,7 +76,7 @@ near-enough {points} p e =
 
 -- and where the local test finds a vertex, OUTSIDE applies: no scan is made in vain
 pub near-needed : {points : List ℤ} {corners begins : List ℕ} → Measured points corners begins → near points corners begins ≡ true
-    → outside points corners begins ≡ Nothing → ⊥
+    → placeOf (outside points corners begins) ≡ Nothing → ⊥
 unfolding near nearPart isNear leadsOut
 near-needed {points} {corners} {begins} m e o =
     let facet : ℕ → Bool = nearFacet points corners begins in
@@ -94,5 +93,5 @@ near-needed {points} {corners} {begins} m e o =
     let k = lastPlace test (length corners) in
     let b : q - 1 < length corners = omega (arith, k .upto) in
     let (leaving, out) = both (leaves corners v (q - 1)) (isOutside points part (to corners begins (q - 1))) (k .holds (q - 1) (omega arith)) in
-    let none = first-none (facets begins) (λ f. vertices points) (λ f. isOutside points (facetOf corners begins f)) o in
+    let none = applies-never (outside points corners begins) o in
     true≢false (sym out ∙ none f _ lf (m .sound .named .index _ (next-below (m .sound .laid) b)))

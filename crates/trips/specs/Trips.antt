@@ -15,9 +15,8 @@ use Rattle.whole.specs.Count.{neither}
 use Rattle.points.specs.Points.{vertices}
 use Rattle.tables.specs.Tables.{leastVertices, mostVertices, leastFacets, mostFacets, mostCorners, facets, sides, facetOf}
 use Rattle.tables.specs.Size.{isSize, wrongLengths, wrongEnds, wrongSides}
-use Rattle.tables.specs.Found.{first-none}
-use Rattle.tables.specs.Facets.{onFacets}
-use Rattle.limits.specs.Rules.{wild}
+use Rattle.tables.specs.Search.{applies-never}
+use Rattle.limits.specs.Rules.{index}
 use Rattle.answers.specs.Answer.{ofLength}
 use Rattle.tape.specs.Little.{Bytes}
 use Rattle.whole.specs.Joined.{length-listed}
@@ -130,7 +129,7 @@ module _ {points : List ℤ} {corners begins : List ℕ} (o : InOrder points cor
     small = λ k. elim (decLt k (sides begins f)) [
       | yes h ↦
           let n = vertices points in
-          let e = first-none (facets begins) (sides begins) (onFacets corners begins (wild n)) (o .numbers) f k l h in
+          let e = applies-never (index n corners begins) (o .numbers) f k l h in
           omega (arith, leb-false n (getD (facetOf corners begins f) k 0) e, placed o .few)
       | no h ↦
           let e = List·getD-eq-default (facetOf corners begins f) 0 {n = k} (rw (length-facet (divided (laid o)) f l) (omega arith)) in

@@ -10,7 +10,7 @@ use Rattle.space.specs.Rows.{ExactRow, widest}
 use Rattle.sides.specs.Sides.{normalOf, isLeft}
 use Rattle.flat.specs.Facet.{Facet, cornerAfter}
 use Rattle.tables.specs.Facets.{inFacets}
-use Rattle.tables.specs.declared.Found.{Found}
+use Rattle.tables.specs.Search.{Search}
 
 abbrev pub normalIn : List ℤ → List ℕ → List ℤ
 normalIn points part = normalOf points (getD part 0 0) (getD part 1 0) (getD part 2 0)
@@ -29,5 +29,5 @@ pub record Unturned (points : List ℤ) (part : List ℕ) (n : List ℤ) (p : �
   pub normal : ExactRow widest (normalIn points part) n
   pub yet : NoneYet (isTurn points part) (length part) p
 
-abbrev pub turn : List ℤ → List ℕ → List ℕ → Found
+abbrev pub turn : List ℤ → List ℕ → List ℕ → Search
 turn points corners begins = inFacets corners begins (isTurn points)

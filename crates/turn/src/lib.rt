@@ -6,6 +6,7 @@ ghost use Rattle.whole.specs.First.{firstBelow, anyBelow};
 ghost use Rattle.points.specs.Points.{Vertex};
 ghost use Rattle.space.specs.Rows.{BoundedRow, widest};
 ghost use Rattle.sides.specs.Sides.{Three};
+ghost use Rattle.tables.specs.Search.{placeOf};
 ghost use Rattle.flat.specs.Facet.{Facet, Measured};
 ghost use Rattle.turn.specs.Rules.{strays, isTurn, turn};
 
@@ -58,7 +59,7 @@ fn first_turn(points: &[i32], part: &[u16]) -> usize
 // Number 10, TURN: its first place.
 pub fn turn(points: &[i32], corners: &[u16], begins: &[u16]) -> tables::Found
     requires { ⌜ Measured (now points) (now corners) (now begins) ⌝ }
-    ensures { λ r. ⌜ r ≡ turn (now (points .entry)) (now (corners .entry)) (now (begins .entry)) ⌝ }
+    ensures { λ r. ⌜ r ≡ placeOf (turn (now (points .entry)) (now (corners .entry)) (now (begins .entry))) ⌝ }
 {
     let m = begins.len() - 1;
     let mut f = 0;

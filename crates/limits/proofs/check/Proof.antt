@@ -4,7 +4,8 @@ use mathlib.Core.Path.{_≡_, refl, sym, _∙_}
 use mathlib.Core.Bool.{Bool, false}
 use mathlib.Core.List.{List}
 use Rattle.tables.specs.Size.{isSize, sized}
-use Rattle.answers.specs.Order.{Rule, ofAll, first-applies, never-applies, firstOf, rulesFrom, first-at, first-after, passes-none}
+use Rattle.tables.specs.Search.{ofAll, first-applies, never-applies}
+use Rattle.answers.specs.Order.{Rule, firstOf, rulesFrom, first-at, first-after, passes-none}
 use Rattle.limits.specs.InOrder.{limitRules}
 use Rattle.limits.proofs.check.Statement.{statement}
 use Rattle.limits.proofs.check.Tie as tie
