@@ -11,8 +11,8 @@ use Rattle.solid.specs.Reach.{Around, here, hop, Ring, Linked, self, lin
 use Rattle.solid.specs.Box.{Box}
 use Rattle.solid.specs.Decide.{run, via, same?, less?, below?, ¬?, _→?_, _×?_, _⊎?_, all?, some?}
 use Rattle.solid.specs.Tables.{Tables, Place, Corner, Edge, Sized, Ranged, Closed, Flat}
-use Rattle.solid.specs.Tables.{Outside, Convex, Reflex, after, next, normal, volume}
-use Rattle.solid.specs.Theorems.{no-reflex}
+use Rattle.solid.specs.Tables.{Outside, Convex, Reflex, Neighbours, after, next, normal, volume}
+use Rattle.solid.specs.Theorems.{no-reflex, neighbours}
 
 -- ---- "vertices (0,0,0), (1,0,0), (0,1,0), (0,0,1); facets (0,2,1), (0,1,3), (0,3,2), (1,2,3)"
 
@@ -111,6 +111,9 @@ convex = record { closed = closed; flat = flat; outside = outside }
 
 pub reflex : Reflex tetra
 reflex = no-reflex sized convex
+
+pub neighbouring : Neighbours tetra
+neighbouring = neighbours sized outside
 
 box : (w : ℕ) → w < 4 → Box 1 (at w)
 box zero h = omega arith
