@@ -1,5 +1,4 @@
 -- `near::near_part` meets its contract: the law of searches over the corners of a facet, and along the chain of each. Assumes nothing.
-use borrow.Author.Needs.{needs}
 use native.Mathlib.Omega.{arith}
 use Prim.Native.Nat.{_-_}
 use lib.ListN.{length}
@@ -27,36 +26,42 @@ loop-holds : tie.Need-loop-holds Inv-loop2 μ-loop2 Inv-loop μ-loop
 loop-holds c = let (tables, facet-in) = c .before .before .before .pre in nearing-0 tables facet-in (c .part .ensures)
 
 head-at-requires : tie.Need-head-at-requires Inv-loop2 μ-loop2 Inv-loop μ-loop
-head-at-requires c κs = rw (c .wide .ensures .is) (corner-small (c .before .before .before .loop .inv) (omega arith))
+head-at-requires c κs =
+    let i = c .before .before in
+    rw (c .wide .ensures .is) (corner-small (i .before .loop .inv) (i .loop-test .taken))
 
 loop2-holds : tie.Need-loop2-holds Inv-loop2 μ-loop2 Inv-loop μ-loop
 loop2-holds c =
     let w = c .before in
-    rw (c .head-at .ensures, w .wide .ensures .is) (chaining-0 (w .before .before .before .loop .inv) (omega arith))
+    let i = w .before .before in
+    rw (c .head-at .ensures, w .wide .ensures .is) (chaining-0 (i .before .loop .inv) (i .loop-test .taken))
 
 is-outside-requires : tie.Need-is-outside-requires Inv-loop2 μ-loop2 Inv-loop μ-loop
 is-outside-requires c κs =
-    let i = c .before .before .loop2 .inv in
-    (own-facet (i .nearing), rw (c .end-at .ensures) (end-named i (omega arith)))
+    let i = c .before in
+    let chaining = i .before .loop2 .inv in
+    (own-facet (chaining .nearing), rw (c .end-at .ensures) (end-named chaining (i .loop2-test .taken)))
 
 returns : tie.Need-returns Inv-loop2 μ-loop2 Inv-loop μ-loop
 returns c =
     let o = c .before in
     let e = o .before in
-    chaining-hit (e .before .before .loop2 .inv) (omega arith) (rw (e .end-at .ensures) at (o .is-outside .ensures)) (c .if1 .taken)
+    let i = e .before in
+    chaining-hit (i .before .loop2 .inv) (i .loop2-test .taken) (rw (e .end-at .ensures) at (o .is-outside .ensures)) (c .if1 .taken)
 
 loop2-less : tie.Need-loop2-less Inv-loop2 μ-loop2 Inv-loop μ-loop
 loop2-less c =
-    let e = c .before .before .before in
-    rw (c .back-at .ensures) (link-less (e .before .before .loop2 .inv) (omega arith))
+    let i = c .before .before .before .before in
+    rw (c .back-at .ensures) (link-less (i .before .loop2 .inv) (i .loop2-test .taken))
 
 loop2-again : tie.Need-loop2-again Inv-loop2 μ-loop2 Inv-loop μ-loop
 loop2-again c =
     let t = c .before in
     let o = t .before in
     let e = o .before in
+    let i = e .before in
     rw (c .back-at .ensures)
-    (chaining-more (e .before .before .loop2 .inv) (omega arith) (rw (e .end-at .ensures) at (o .is-outside .ensures)) (t .if1 .left))
+    (chaining-more (i .before .loop2 .inv) (i .loop2-test .taken) (rw (e .end-at .ensures) at (o .is-outside .ensures)) (t .if1 .left))
 
 pub near-part-spec : {M : Type 1} → statement M
 near-part-spec =
@@ -69,18 +74,18 @@ near-part-spec =
     part-requires
     loop-holds
     (λ c. omega arith)
-    (λ c. omega arith)
-    (λ c κs. search needs)
+    (λ c. c .before .loop-test .taken)
+    (λ c κs. tt)
     head-at-requires
     loop2-holds
-    (λ c. omega arith)
-    (λ c κs. link-small (c .before .loop2 .inv) (omega arith))
+    (λ c. c .loop2-test .taken)
+    (λ c κs. link-small (c .before .loop2 .inv) (c .loop2-test .taken))
     is-outside-requires
     returns
-    (λ c κs. let e = c .before .before in link-small (e .before .before .loop2 .inv) (omega arith))
+    (λ c κs. let i = c .before .before .before in link-small (i .before .loop2 .inv) (i .loop2-test .taken))
     loop2-less
     loop2-again
     (λ c. omega arith)
     (λ c. omega arith)
-    (λ c. nearing-more (c .before .loop2 .inv) (omega arith))
-    (λ c. nearing-none (c .before .loop .inv) (omega arith)))
+    (λ c. nearing-more (c .before .loop2 .inv) (c .loop2-test .left))
+    (λ c. nearing-none (c .before .loop .inv) (c .loop-test .left)))
