@@ -3,7 +3,7 @@ use mathlib.Core.Path.{_≡_, refl}
 use mathlib.Core.List.{List, [], _∷_, _++_, map, List·Memᴰ, List·Memᴰ·head, List·Memᴰ·tail, head-eq-of-cons-eq, tail-eq-of-cons-eq}
 use Prim.Native.Nat.{ℕ}
 use lib.IntN.{ℤ, pos, negℤ}
-use lib.ListN.{take, replicate}
+use lib.ListN.{take, replicate, getD}
 use Rattle.whole.specs.First.{firstBelow}
 use Rattle.whole.specs.Count.{countBelow, lastBelow}
 use Rattle.whole.specs.Orbit.{iterate}
@@ -11,8 +11,10 @@ use Rattle.whole.specs.Rounds.{tab, rounds}
 use Rattle.points.specs.Range.{isOut}
 use Rattle.space.specs.Plane.{det as det²}
 use Rattle.space.specs.Vectors.{_-_, _·_, det}
-use Rattle.points.specs.Points.{coordOf}
-use Rattle.tables.specs.Tables.{homeOf, nextOf}
+use Rattle.space.specs.Rows.{vecOf}
+use Rattle.points.specs.Points.{coordOf, point}
+use Rattle.sides.specs.Sides.{normalOf}
+use Rattle.tables.specs.Tables.{homeOf, nextOf, facetOf}
 use Rattle.tables.specs.Size.{isSize}
 use Rattle.answers.specs.Answer.{accepted, fault, passed, ofLength}
 use Rattle.answers.specs.Order.{firstOf}
@@ -55,25 +57,36 @@ pub record Drawn : Type 0 where
 abbrev pub tables : List ℤ → List ℕ → List ℕ → Drawn
 tables points corners begins = record { points = points; corners = corners; begins = begins }
 
--- the walk is asked with a direction, a start and a lent trail, the writer with a lent buffer, the reader with a tape and lent tables
+-- a plane is asked by its facet and a vertex, the walk with a direction, a start and a lent trail, the writer with a lent buffer, the reader with a
+-- tape and lent tables
 pub data Question : Type 0 where
   judge : Drawn → Question
+  plane : Drawn → ℕ → ℕ → Question
   walk : Drawn → Direction → ℕ → List ℕ → Question
   outline : List ℤ → Question
   write : Drawn → List ℕ → Question
   read : List ℕ → Drawn → Question
 
--- the answer, and what the lent trail, buffer or tables then hold
+-- the answer, and what the lent trail, buffer or tables then hold; of a plane its normal, its value, and what the vertex gives
 pub data Reply : Type 0 where
   ofJudge : Answer → Reply
+  ofPlane : List ℤ → ℤ → ℤ → Reply
   ofWalk : Walked → List ℕ → Reply
   ofOutline : Verdict → Reply
   ofWriter : Answer → List ℕ → Reply
   ofReader : Reading → Drawn → Reply
 
+-- "A facet's plane comes from its first three corners a, b, c": the normal of facet f, its product with a, and with vertex v
+abbrev measured : Drawn → ℕ → ℕ → Reply
+measured s f v =
+    let part = facetOf (s .corners) (s .begins) f in
+    let n = normalOf (s .points) (getD part 0 0) (getD part 1 0) (getD part 2 0) in
+    ofPlane n (vecOf n · point (s .points) (getD part 0 0)) (vecOf n · point (s .points) v)
+
 -- what the functions promise to answer
 abbrev pub answer : Question → Reply
 answer (judge s) = ofJudge (judged (s .points) (s .corners) (s .begins))
+answer (plane s f v) = measured s f v
 answer (walk s d start trail) =
     ofWalk (walked (s .points) (s .corners) (s .begins) d start trail)
     (trailAfter (s .points) (s .corners) (s .begins) d start trail)
@@ -174,6 +187,7 @@ table =
     ∷ row H (judge (with-points (vertices (pos 1) (pos 0)))) (ofJudge (fault 9 1 2))
     ∷ row H (judge (with-points (vertices (pos 1) (minus 1)))) (ofJudge (fault 11 0 0))
     ∷ row I (judge star) (ofJudge (fault 12 0 3))
+    ∷ row I (plane star 0 3) (ofPlane (xyz (pos 6) (pos 21) (pos 8)) (pos 24) (pos 90))
     ∷ row J (walk T (direction (pos 1) (pos 1) (pos 1)) 0 (replicate 4 9)) (ofWalk (arrived 1 (pos 1) 1) (0 ∷ 1 ∷ 9 ∷ 9 ∷ []))
     ∷ row K (walk T (direction (pos 0) (pos 0) (pos 0)) 3 (replicate 4 9)) (ofWalk (arrived 3 (pos 0) 0) (3 ∷ 9 ∷ 9 ∷ 9 ∷ []))
     ∷ row L (walk T (direction (pos 0) (pos 0) (minus 1)) 3 (replicate 4 9)) (ofWalk (arrived 0 (pos 0) 1) (3 ∷ 0 ∷ 9 ∷ 9 ∷ []))
@@ -186,9 +200,9 @@ table =
     ∷ row P (read (take 60 tapeT) lent) (ofReader (Refused 20 56) lent)
     ∷ []
 
--- the sheet's letters in its order: C and H have two rows, P three
+-- the sheet's letters in its order: C, H and I have two rows, P three
 pub letters : map (λ r. r .letter) table
-    ≡ A ∷ B ∷ C ∷ C ∷ D ∷ E ∷ F ∷ G ∷ H ∷ H ∷ I ∷ J ∷ K ∷ L ∷ M ∷ N ∷ O ∷ P ∷ P ∷ P ∷ []
+    ≡ A ∷ B ∷ C ∷ C ∷ D ∷ E ∷ F ∷ G ∷ H ∷ H ∷ I ∷ I ∷ J ∷ K ∷ L ∷ M ∷ N ∷ O ∷ P ∷ P ∷ P ∷ []
 letters = refl
 
 -- "Cases A to P stand together as a single table with a single proved statement"
