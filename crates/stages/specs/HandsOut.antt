@@ -14,15 +14,15 @@ use Rattle.answers.specs.declared.Fault.the-variants.{Breaks, None}
 use Rattle.index.specs.Entries.{Fresh}
 use Rattle.edges.specs.Index.{Indexed, one-index}
 
--- 1 to 5, "a facet names a vertex again" and "no facet names this vertex" the last of them, are looked for without the index of the edges
+-- 1 to 5 are looked for without the index of the edges: PAIR is the first rule that speaks of edges
 abbrev pub isEarly : ℕ → Bool
 isEarly number = leb 1 number && leb number 5
 
--- "what every lent entry then holds": after 1 to 5 the tables are blank, as they were lent; after 0 and from 6 on they hold the index
+-- "what every lent entry then holds, on all inputs and all refusals": after 1 to 5 the tables are blank, as they were lent, and else they hold the index
 abbrev pub HandsOut : ℕ → List ℕ → List ℕ → List (List ℕ) → List ℕ → Type 0
 HandsOut number corners begins edges heads = cond (isEarly number) (Fresh edges heads) (Indexed corners begins edges heads)
 
--- no two outcomes satisfy an equation for the answer and this of its number
+-- no two outcomes satisfy a promise of one answer and of these tables by its number
 module _ (corners begins : List ℕ) {edges edges′ : List (List ℕ)} {heads heads′ : List ℕ} where
   one-hand-out : (early : Bool) → cond early (Fresh edges heads) (Indexed corners begins edges heads)
       → cond early (Fresh edges′ heads′) (Indexed corners begins edges′ heads′) → (edges ≡ edges′) × (heads ≡ heads′)
@@ -30,8 +30,10 @@ module _ (corners begins : List ℕ) {edges edges′ : List (List ℕ)} {heads h
   one-hand-out false i j = one-index i j
 
   pub one-outcome : {A : Type 0} (number : A → ℕ) {answer r s : A} → (r ≡ answer) × HandsOut (number r) corners begins edges heads
-      → (s ≡ answer) × HandsOut (number s) corners begins edges′ heads′ → (r ≡ s) × ((edges ≡ edges′) × (heads ≡ heads′))
-  one-outcome number {answer} (e, h) (f, k) = (e ∙ sym f, one-hand-out (isEarly (number answer)) (rw e at h) (rw f at k))
+      → (s ≡ answer) × HandsOut (number s) corners begins edges′ heads′ → (r ≡ s) × (edges ≡ edges′) × (heads ≡ heads′)
+  one-outcome number {answer} (e, h) (f, k) =
+      let (rows, links) = one-hand-out (isEarly (number answer)) (rw e at h) (rw f at k) in
+      (e ∙ sym f, rows, links)
 
 -- ---- the numbers of a list of rules
 
