@@ -1,4 +1,3 @@
--- The judge's answer, and the index that it hands out.
+-- The judge's answer, and what is known of tables that pass its rules.
 pub mod Judge
 pub mod Stages
-pub mod Indexed

@@ -1,12 +1,12 @@
 // The judge of a solid.
 ghost use mathlib.Core.Path.{_≡_};
+ghost use Rattle.answers.specs.Answer.{faultNumber};
 ghost use Rattle.answers.specs.Order.{firstOf, rulesFrom, Passes};
 ghost use Rattle.index.specs.Entries.{Fresh};
 ghost use Rattle.edges.specs.Index.{Indexed};
 ghost use Rattle.stages.specs.Rules.{rulesToTurn};
-ghost use Rattle.stages.specs.Known.{HandsOut};
+ghost use Rattle.stages.specs.HandsOut.{HandsOut};
 ghost use Rattle.judge.specs.Judge.{rules, judged};
-ghost use Rattle.judge.specs.Indexed.{IndexedIf};
 
 // Numbers 11 and 12, where 1 to 10 passed.
 fn from_reflex(
@@ -41,7 +41,7 @@ fn first_fault(
 ) -> answers::Fault
     requires { ⌜ Fresh (now edges) (now heads) ⌝ }
     ensures first { λ r. ⌜ r ≡ firstOf (rules (now (points .entry)) (now (corners .entry)) (now (begins .entry))) ⌝ }
-    ensures index { λ r. ⌜ HandsOut r (now (corners .entry)) (now (begins .entry)) (now (edges .exit)) (now (heads .exit)) ⌝ }
+    ensures index { λ r. ⌜ HandsOut (faultNumber r) (now (corners .entry)) (now (begins .entry)) (now (edges .exit)) (now (heads .exit)) ⌝ }
 {
     let early = stages::up_to_turn(points, corners, begins, edges, heads);
     if let answers::Fault::Breaks(number, first, second) = early {
@@ -50,7 +50,7 @@ fn first_fault(
     from_reflex(points, corners, begins, edges, heads)
 }
 
-// The judge of a solid, which hands out the index of an accepted one in two tables that are lent blank.
+// The judge of a solid, and the index of its edges in two tables that are lent blank and stay so at 1 to 5.
 pub fn judge_with_index(
     points: &[i32],
     corners: &[u16],
@@ -60,7 +60,7 @@ pub fn judge_with_index(
 ) -> answers::Answer
     requires { ⌜ Fresh (now edges) (now heads) ⌝ }
     ensures answer { λ r. ⌜ r ≡ judged (now (points .entry)) (now (corners .entry)) (now (begins .entry)) ⌝ }
-    ensures index { λ r. ⌜ IndexedIf r (now (corners .entry)) (now (begins .entry)) (now (edges .exit)) (now (heads .exit)) ⌝ }
+    ensures index { λ r. ⌜ HandsOut (r .number) (now (corners .entry)) (now (begins .entry)) (now (edges .exit)) (now (heads .exit)) ⌝ }
 {
     let first = first_fault(points, corners, begins, edges, heads);
     answers::Answer::of(points, corners, begins, first)

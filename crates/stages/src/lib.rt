@@ -1,12 +1,13 @@
 // Numbers 1 to 10 in their order: the judge's stage before REFLEX, which hands out the index of the edges.
 ghost use mathlib.Core.Path.{_≡_};
+ghost use Rattle.answers.specs.Answer.{faultNumber};
 ghost use Rattle.answers.specs.Order.{firstOf, rulesFrom};
 ghost use Rattle.index.specs.Entries.{Fresh};
 ghost use Rattle.edges.specs.Index.{Indexed};
 ghost use Rattle.pair.specs.Across.{Crossed};
 ghost use Rattle.flat.specs.Facet.{Measured};
 ghost use Rattle.stages.specs.Rules.{rulesToTurn};
-ghost use Rattle.stages.specs.Known.{HandsOut};
+ghost use Rattle.stages.specs.HandsOut.{HandsOut};
 
 // Numbers 9 and 10, where 1 to 3 passed.
 fn from_bent(points: &[i32], corners: &[u16], begins: &[u16]) -> answers::Fault
@@ -79,7 +80,7 @@ fn from_repeat(
     requires { ⌜ Measured (now points) (now corners) (now begins) ⌝ }
     requires { ⌜ Fresh (now edges) (now heads) ⌝ }
     ensures first { λ r. ⌜ r ≡ firstOf (rulesFrom 4 (rulesToTurn (now (points .entry)) (now (corners .entry)) (now (begins .entry)))) ⌝ }
-    ensures index { λ r. ⌜ HandsOut r (now (corners .entry)) (now (begins .entry)) (now (edges .exit)) (now (heads .exit)) ⌝ }
+    ensures index { λ r. ⌜ HandsOut (faultNumber r) (now (corners .entry)) (now (begins .entry)) (now (edges .exit)) (now (heads .exit)) ⌝ }
 {
     let repeat = names::repeat(corners, begins);
     if let tables::Found::At(f, p) = repeat {
@@ -92,7 +93,7 @@ fn from_repeat(
     from_pair(points, corners, begins, edges, heads)
 }
 
-// Numbers 1 to 10: the first fault. Where there is none, the two tables, which are lent blank, hold the index of the edges.
+// Numbers 1 to 10: the first fault. The two tables, which are lent blank, stay so at 1 to 5; else they hold the index of the edges.
 pub fn up_to_turn(
     points: &[i32],
     corners: &[u16],
@@ -102,7 +103,7 @@ pub fn up_to_turn(
 ) -> answers::Fault
     requires { ⌜ Fresh (now edges) (now heads) ⌝ }
     ensures first { λ r. ⌜ r ≡ firstOf (rulesToTurn (now (points .entry)) (now (corners .entry)) (now (begins .entry))) ⌝ }
-    ensures index { λ r. ⌜ HandsOut r (now (corners .entry)) (now (begins .entry)) (now (edges .exit)) (now (heads .exit)) ⌝ }
+    ensures index { λ r. ⌜ HandsOut (faultNumber r) (now (corners .entry)) (now (begins .entry)) (now (edges .exit)) (now (heads .exit)) ⌝ }
 {
     let early = limits::check(points, corners, begins);
     if let answers::Fault::Breaks(number, first, second) = early {

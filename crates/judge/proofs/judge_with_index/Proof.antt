@@ -1,12 +1,11 @@
 -- `judge::judge_with_index` meets its contract. Assumes nothing.
 use mathlib.Core.Path.{sym, ap, _∙_}
 use native.Mathlib.Omega.{arith}
-use Rattle.answers.specs.Answer.{answerOf, faultNumber, answer-number}
+use Rattle.answers.specs.Answer.{answerOf, answer-number}
 use Rattle.answers.specs.Order.{passes-beginning}
 use Rattle.judge.specs.Judge.{judged}
 use Rattle.stages.specs.Rules.{rulesToTurn}
 use Rattle.stages.specs.Known.{measured-after}
-use Rattle.judge.specs.Stages.{none-broken}
 use Rattle.judge.proofs.judge_with_index.Statement.{statement}
 use Rattle.judge.proofs.judge_with_index.Tie as tie
 
@@ -26,16 +25,9 @@ returns c =
     let f = c .before in
     let a = start (f .before) .args in
     let (first, index) = f .first-fault .ensures in
-    let points = a .points .now in
-    let corners = a .corners .now in
-    let begins = a .begins .now in (
-      c .of .ensures ∙ ap (answerOf points corners begins) first,
-      record {
-        indexed = λ e.
-            let n = sym (answer-number points corners begins (f .first-fault .result)) ∙ sym (ap (λ r. r .number) (c .of .ensures)) ∙ e in
-            index .indexed (first ∙ none-broken points corners begins (ap faultNumber (sym first) ∙ n));
-      },
-    )
+    let is = c .of .ensures in
+    let number = ap (λ r. r .number) is ∙ answer-number (a .points .now) (a .corners .now) (a .begins .now) (f .first-fault .result) in
+    (is ∙ ap (answerOf (a .points .now) (a .corners .now) (a .begins .now)) first, rw number index)
 
 pub judge-with-index-spec : {M : Type 1} → statement M
 judge-with-index-spec = tie.close (tie.spec (λ c κs. start c .pre) of-requires returns)

@@ -1,10 +1,10 @@
 -- `stages::from_repeat` meets its contract: the law of the order, from REPEAT on. Assumes nothing.
 use borrow.Author.Needs.{needs}
-use mathlib.Core.Path.{_≡_, sym, _∙_}
+use mathlib.Core.Path.{_≡_, refl, sym, _∙_}
 use mathlib.Core.List.{List}
 use Rattle.answers.specs.Order.{Rule, firstOf, rulesFrom, first-at, first-after}
 use Rattle.stages.specs.Rules.{rulesToTurn}
-use Rattle.stages.specs.Known.{hands-none, hands-out}
+use Rattle.stages.specs.HandsOut.{hands-index}
 use Rattle.stages.proofs.from_repeat.Statement.{statement}
 use Rattle.stages.proofs.from_repeat.Tie as tie
 
@@ -21,7 +21,8 @@ returns : tie.Need-returns
 returns c =
     let f = c .before in
     let r = f .before .before in
-    (first-at (rules (start r)) 4 (sym (r .repeat .ensures) ∙ f .repeat2 .given .1), hands-none)
+    let (measured, fresh) = start r .pre in
+    (first-at (rules (start r)) 4 (sym (r .repeat .ensures) ∙ f .repeat2 .given .1), fresh)
 
 -- REPEAT has passed ..
 from-unused : (c : tie.After-enum-told) → let rs = rules (start (c .before .before)) in firstOf (rulesFrom 4 rs) ≡ firstOf (rulesFrom 5 rs)
@@ -35,8 +36,9 @@ returns-2 c =
     let f = c .before in
     let u = f .before .before in
     let n = u .before in
-    let rs = rules (start (n .before .before)) in
-    (first-at rs 5 (sym (u .unused .ensures) ∙ f .unused2 .given .1) ∙ sym (from-unused n), hands-none)
+    let s = start (n .before .before) in
+    let (measured, fresh) = s .pre in
+    (first-at (rules s) 5 (sym (u .unused .ensures) ∙ f .unused2 .given .1) ∙ sym (from-unused n), fresh)
 
 -- .. and UNUSED
 from-pair-requires : tie.Need-from-pair-requires
@@ -51,8 +53,10 @@ returns-3 c =
     let u = m .before .before in
     let n = u .before in
     let rs = rules (start (n .before .before)) in
-    let (first, index) = c .from-pair .ensures in
-    (first ∙ sym (from-unused n ∙ first-after rs 5 (sym (u .unused .ensures) ∙ m .enum-told2 .given .1)), hands-out index)
+    let (first, index) = c .from-pair .ensures in (
+      first ∙ sym (from-unused n ∙ first-after rs 5 (sym (u .unused .ensures) ∙ m .enum-told2 .given .1)),
+      hands-index (rulesFrom 6 rs) refl (c .from-pair .result) first index,
+    )
 
 pub from-repeat-spec : {M : Type 1} → statement M
 from-repeat-spec =

@@ -1,10 +1,11 @@
 -- `stages::up_to_turn` meets its contract: a fault of the limits is the first of all. Assumes nothing.
 use borrow.Author.Needs.{needs}
-use mathlib.Core.Path.{sym, _∙_}
+use mathlib.Core.Path.{refl, sym, _∙_}
 use mathlib.Core.List.{List}
 use Rattle.answers.specs.Order.{Rule, Passes, first-append, none-append}
 use Rattle.limits.specs.InOrder.{limitRules, limits-none}
-use Rattle.stages.specs.Known.{measured, hands-none}
+use Rattle.stages.specs.Known.{measured}
+use Rattle.stages.specs.HandsOut.{isEarly, fault-passes}
 use Rattle.stages.proofs.up_to_turn.Statement.{statement}
 use Rattle.stages.proofs.up_to_turn.Tie as tie
 
@@ -18,7 +19,9 @@ returns : tie.Need-returns
 returns c =
     let e = c .before in
     let k = e .before .before in
-    (sym (first-append _ (limits (start k)) (sym (k .check .ensures) ∙ e .early .given .1)), hands-none)
+    let rs = limits (start k) in
+    let h = sym (k .check .ensures) ∙ e .early .given .1 in
+    (sym (first-append _ rs h), rw (fault-passes isEarly rs refl h) (start k .pre))
 
 -- 1 to 3 have passed
 in-limits : (c : tie.After-enum-told) → Passes (limits (start (c .before .before)))

@@ -67,7 +67,7 @@ climb-requires c κs =
     let right = permitted _ (sym (w .is-wrong .ensures) ∙ d .if3 .left) in
     granted-climbs _ _ _ _ _ _
     (record { accepted = rw answer at (n .if1 .left); permitted = right; corner = w .before .if2 .left; room = e .if4 .left })
-    (b .begin .ensures) (index .indexed (n .if1 .left))
+    (b .begin .ensures) (rw (n .if1 .left) at index)
 
 returns-5 : tie.Need-returns-5
 returns-5 c =
