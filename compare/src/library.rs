@@ -53,6 +53,7 @@ pub trait Library {
     fn outline(&self, points: &[i32], out: &mut [i64]) -> u16;
     fn read_tape(&self, tape: &[u8], room: &mut Room, out: &mut [i64]) -> u16;
     fn write_tape(&self, t: Lent, buffer: &mut [u8], out: &mut [i64]) -> u16;
+    fn look_up(&self, t: Lent, facet: u32, out: &mut [i64]) -> u16;
 }
 
 /// Writes the places where they all fit, else nothing.
@@ -100,5 +101,11 @@ impl Library for Independent {
         let (number, places) = independent::write_tape(t.points, t.corners, t.begins, buffer);
         put(out, &places);
         number as u16
+    }
+
+    fn look_up(&self, t: Lent, facet: u32, out: &mut [i64]) -> u16 {
+        let part = independent::look_up(t.points, t.corners, t.begins, facet);
+        put(out, &part);
+        0
     }
 }

@@ -82,6 +82,7 @@ pub fn run(product: Product, case: &Case) -> Outcome {
         Case::Outline(points) => outline(library, points),
         Case::Read { tape, rooms, salt } => read(library, tape, *rooms, *salt),
         Case::Write { tables, room, salt } => write(library, tables, *room, *salt),
+        Case::LookUp { tables, facet } => look_up(library, tables, *facet),
         Case::JudgingProgram(input) => printed(programs.judging(input)),
         Case::WalkingProgram { tape, input } => printed(programs.walking(tape.as_deref(), input)),
     };
@@ -212,6 +213,13 @@ fn write(library: &dyn Library, tables: &Tables, room: usize, salt: usize) -> Ou
     let mut outcome = finish(number, &out, kept, short);
     outcome.lent = buffer.now().iter().map(|&n| n.into()).collect();
     outcome
+}
+
+fn look_up(library: &dyn Library, tables: &Tables, facet: u32) -> Outcome {
+    let mut out = places(2);
+    let number = library.look_up(lend(tables), facet, out.lend());
+    let short = short_out(number, 2, |out| library.look_up(lend(tables), facet, out));
+    finish(number, &out, true, short)
 }
 
 /// The number is that of the line, or one no line may have.

@@ -4,6 +4,7 @@ use crate::library::{put, Lent, Library, Room, Way};
 use crate::programs::Programs;
 use independent::generate::{Input, Tables};
 use std::io;
+use std::ops::Range;
 
 /// A refusal's number and places.
 type Refusal = (u16, [i64; 3]);
@@ -28,6 +29,21 @@ fn cross(a: [i64; 3], b: [i64; 3]) -> [i64; 3] {
     ]
 }
 
+/// Whether the sizes are in order.
+fn sized(t: Lent) -> bool {
+    let vertices = t.points.len() / 3;
+    let facets = t.begins.len().wrapping_sub(1);
+    t.points.len().is_multiple_of(3)
+        && (4..=1024).contains(&vertices)
+        && (4..=2048).contains(&facets)
+        && t.corners.len() <= 6144
+        && t.begins[0] == 0
+        && usize::from(t.begins[facets]) == t.corners.len()
+        && t.begins
+            .windows(2)
+            .all(|w| (3..=12).contains(&(i32::from(w[1]) - i32::from(w[0]))))
+}
+
 /// Tables whose sizes, ranges and corner numbers are in order.
 struct Solid<'a> {
     points: Vec<[i64; 3]>,
@@ -37,20 +53,10 @@ struct Solid<'a> {
 
 impl<'a> Solid<'a> {
     fn new(t: Lent<'a>) -> Result<Self, Refusal> {
-        let vertices = t.points.len() / 3;
-        let facets = t.begins.len().wrapping_sub(1);
-        let sized = t.points.len().is_multiple_of(3)
-            && (4..=1024).contains(&vertices)
-            && (4..=2048).contains(&facets)
-            && t.corners.len() <= 6144
-            && t.begins[0] == 0
-            && usize::from(t.begins[facets]) == t.corners.len()
-            && t.begins
-                .windows(2)
-                .all(|w| (3..=12).contains(&(i32::from(w[1]) - i32::from(w[0]))));
-        if !sized {
+        if !sized(t) {
             return refuse(1, 0, 0);
         }
+        let vertices = t.points.len() / 3;
         if let Some(i) = t.points.iter().position(|c| c.unsigned_abs() > 8191) {
             return refuse(2, i / 3, 0);
         }
@@ -479,6 +485,16 @@ fn write_tape(t: Lent, buffer: &mut [u8]) -> Result<usize, Refusal> {
     Ok(length)
 }
 
+/// The facet's part of the run, or the empty part at its beginning.
+fn facet_part(t: Lent, facet: u32) -> Range<u16> {
+    let facet = facet as usize;
+    if sized(t) && facet + 1 < t.begins.len() {
+        t.begins[facet]..t.begins[facet + 1]
+    } else {
+        0..0
+    }
+}
+
 /// The tables on a tape, of which at most 21,510 bytes are read.
 fn tables_on(tape: &[u8]) -> Result<Tables, (u16, usize)> {
     let mut tables = Tables {
@@ -572,6 +588,12 @@ impl Library for Plain {
         };
         put(out, &places);
         number
+    }
+
+    fn look_up(&self, t: Lent, facet: u32, out: &mut [i64]) -> u16 {
+        let part = facet_part(t, facet);
+        put(out, &[part.start.into(), part.len() as i64]);
+        0
     }
 }
 

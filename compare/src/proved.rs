@@ -41,6 +41,7 @@ exported! {
     fn solid_outline(points: [i32]; ; out: [i64]);
     fn solid_read_tape(tape: [u8]; ; points: [i32], corners: [u16], begins: [u16], out: [i64]);
     fn solid_write_tape(points: [i32], corners: [u16], begins: [u16]; ; buffer: [u8], out: [i64]);
+    fn solid_facet(points: [i32], corners: [u16], begins: [u16]; facet: u32; out: [i64]);
 }
 
 pub struct Proved;
@@ -71,5 +72,9 @@ impl Library for Proved {
 
     fn write_tape(&self, t: Lent, buffer: &mut [u8], out: &mut [i64]) -> u16 {
         solid_write_tape(t.points, t.corners, t.begins, buffer, out)
+    }
+
+    fn look_up(&self, t: Lent, facet: u32, out: &mut [i64]) -> u16 {
+        solid_facet(t.points, t.corners, t.begins, facet, out)
     }
 }

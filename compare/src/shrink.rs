@@ -19,6 +19,7 @@ pub fn shrink(ours: Product, theirs: Product, case: &Case, bound: usize) -> Case
         }
         search.simplify_numbers();
         search.simplify_words();
+        search.simplify_facet();
         if search.left == 0 || search.best == before {
             return search.best;
         }
@@ -38,6 +39,7 @@ pub fn weight(case: &Case) -> usize {
         Case::Write {
             tables: t, room, ..
         } => tables(t) + room,
+        Case::LookUp { tables: t, .. } => tables(t),
         Case::JudgingProgram(input) => input.bytes.len(),
         Case::WalkingProgram { tape, input } => {
             tape.as_ref().map_or(0, Vec::len) + input.bytes.len()
@@ -96,7 +98,8 @@ impl Search<'_> {
                 if self.left == 0 {
                     return;
                 }
-                if !self.keep(candidate) {
+                let moved = with_facet_moved(&self.best, &candidate);
+                if !self.keep(candidate) && !moved.is_some_and(|moved| self.keep(moved)) {
                     at += length;
                 }
             }
@@ -129,6 +132,38 @@ impl Search<'_> {
             self.keep(candidate);
         }
     }
+
+    /// Makes the number of the facet asked for smaller.
+    fn simplify_facet(&mut self) {
+        while let Case::LookUp { tables, facet } = &self.best {
+            let smaller = [0, facet / 2, facet.saturating_sub(1)].map(|facet| Case::LookUp {
+                tables: tables.clone(),
+                facet,
+            });
+            if !smaller.into_iter().any(|candidate| self.keep(candidate)) {
+                return;
+            }
+        }
+    }
+}
+
+/// The cut case with the facet asked for as far from the end of the begins as it was before the cut.
+fn with_facet_moved(before: &Case, cut: &Case) -> Option<Case> {
+    let (
+        Case::LookUp { tables, .. },
+        Case::LookUp {
+            tables: left,
+            facet,
+        },
+    ) = (before, cut)
+    else {
+        return None;
+    };
+    let gone = tables.begins.len().checked_sub(left.begins.len())?;
+    Some(Case::LookUp {
+        tables: left.clone(),
+        facet: facet.checked_sub(gone as u32)?,
+    })
 }
 
 /// The case with one of its coordinates or direction parts changed.
@@ -162,7 +197,10 @@ fn number_at(case: &mut Case, at: usize) -> Option<&mut i32> {
 
 fn tables_of(case: &mut Case) -> Option<&mut Tables> {
     match case {
-        Case::Judge(t) | Case::Walk { tables: t, .. } | Case::Write { tables: t, .. } => Some(t),
+        Case::Judge(t)
+        | Case::Walk { tables: t, .. }
+        | Case::Write { tables: t, .. }
+        | Case::LookUp { tables: t, .. } => Some(t),
         _ => None,
     }
 }

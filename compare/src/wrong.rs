@@ -46,6 +46,15 @@ wrongs! {
     ReadsNothing "reads-nothing",
     WriterJudges "writer-judges",
     WritesBeyond "writes-beyond",
+    PartOneLate "part-one-late",
+    PartOneShort "part-one-short",
+    EmptyAtTheEnd "empty-at-the-end",
+    LastFacetRefused "last-facet-refused",
+    FacetIn16Bits "facet-in-16-bits",
+    OwnBeginsOnly "own-begins-only",
+    LookUpJudges "look-up-judges",
+    LookUpNumbered "look-up-numbered",
+    LookUpCrowds "look-up-crowds",
     ReadsOnce "reads-once",
     TailUnread "tail-unread",
     NeedsAFile "needs-a-file",
@@ -203,6 +212,37 @@ impl Library for Wrong {
         }
         number
     }
+
+    fn look_up(&self, t: Lent, facet: u32, out: &mut [i64]) -> u16 {
+        let mut part = [0; 2];
+        Independent.look_up(t, facet, &mut part);
+        let refused = part == [0, 0];
+        match self {
+            Wrong::PartOneLate if !refused => part[0] += 1,
+            Wrong::PartOneShort if !refused => part[1] -= 1,
+            Wrong::EmptyAtTheEnd if refused => part[0] = t.corners.len() as i64,
+            Wrong::LastFacetRefused if facet as usize + 2 == t.begins.len() => part = [0, 0],
+            Wrong::FacetIn16Bits => {
+                Independent.look_up(t, facet % (1 << 16), &mut part);
+            }
+            Wrong::OwnBeginsOnly => {
+                if let Some(&[first, end]) = t.begins.windows(2).nth(facet as usize) {
+                    if first < end && usize::from(end) <= t.corners.len() {
+                        part = [first.into(), (end - first).into()];
+                    }
+                }
+            }
+            Wrong::LookUpJudges if Independent.judge(t, &mut []) != 0 => part = [0, 0],
+            _ => {}
+        }
+        if *self == Wrong::LookUpCrowds {
+            let room = out.len().min(2);
+            out[..room].copy_from_slice(&part[..room]);
+        } else {
+            put(out, &part);
+        }
+        u16::from(*self == Wrong::LookUpNumbered && refused)
+    }
 }
 
 impl Programs for Wrong {
@@ -297,21 +337,40 @@ mod tests {
     use crate::plain::Plain;
     use crate::shrink::{shrink, weight};
     use crate::{case_of, confront, Product};
+    use independent::generate::Case;
 
     const RIGHT: Product = Product::INDEPENDENT;
+
+    /// The first case that shows the wrong product, and what it shrinks to.
+    fn found_and_shrunk(wrong: &Wrong) -> (Case, Case) {
+        let other = Product::of(wrong);
+        let found = (0..20_000)
+            .map(|i| case_of(5, i))
+            .find(|case| confront(RIGHT, other, case).is_err());
+        let case = found.unwrap_or_else(|| panic!("{} is not found", wrong.label()));
+        let least = shrink(RIGHT, other, &case, 3000);
+        assert!(confront(RIGHT, other, &least).is_err());
+        (case, least)
+    }
 
     #[test]
     fn every_wrong_product_is_found_and_shrunk() {
         for wrong in Wrong::ALL {
-            let other = Product::of(wrong);
-            let found = (0..20_000)
-                .map(|i| case_of(5, i))
-                .find(|case| confront(RIGHT, other, case).is_err());
-            let case = found.unwrap_or_else(|| panic!("{} is not found", wrong.label()));
-            let least = shrink(RIGHT, other, &case, 3000);
-            assert!(confront(RIGHT, other, &least).is_err());
+            let (case, least) = found_and_shrunk(wrong);
             assert!(weight(&least) <= weight(&case));
         }
+    }
+
+    #[test]
+    fn a_look_up_shrinks_with_its_facet() {
+        let least_of = |wrong| match found_and_shrunk(&wrong).1 {
+            Case::LookUp { tables, facet } => (tables.begins, facet),
+            other => panic!("{other:?}"),
+        };
+        let begins = vec![0, 3, 6, 9, 12];
+        assert_eq!(least_of(Wrong::PartOneLate), (begins.clone(), 0));
+        assert_eq!(least_of(Wrong::LastFacetRefused), (begins.clone(), 3));
+        assert_eq!(least_of(Wrong::FacetIn16Bits), (begins, 1 << 16));
     }
 
     #[test]

@@ -53,16 +53,8 @@ pub(crate) fn first_refusal(
     None
 }
 
-/// The facet's part of the lent run, or the empty part at the run's beginning.
-pub fn facet<'a>(points: &[i32], corners: &'a [u16], begins: &[u16], number: u32) -> &'a [u16] {
-    if !sizes_in_order(points, corners, begins) || number as usize >= begins.len() - 1 {
-        return &corners[..0];
-    }
-    let number = number as usize;
-    &corners[usize::from(begins[number])..usize::from(begins[number + 1])]
-}
-
-fn sizes_in_order(points: &[i32], corners: &[u16], begins: &[u16]) -> bool {
+/// Whether SIZE does not apply.
+pub(crate) fn sizes_in_order(points: &[i32], corners: &[u16], begins: &[u16]) -> bool {
     if !points.len().is_multiple_of(3) || begins.is_empty() {
         return false;
     }

@@ -4,6 +4,7 @@ pub mod generate;
 pub mod number;
 
 mod judge;
+mod look_up;
 mod outline;
 mod programs;
 mod tape;
@@ -12,7 +13,8 @@ mod walk;
 #[cfg(test)]
 mod sheet_table;
 
-pub use judge::{facet, judge};
+pub use judge::judge;
+pub use look_up::look_up;
 pub use outline::outline;
 pub use programs::{judging_line, walking_line, LONGEST_INPUT, LONGEST_WORDS};
 pub use tape::{read_tape, write_tape, BEGIN_ROOM, CORNER_ROOM, POINT_ROOM};

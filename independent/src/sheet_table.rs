@@ -1,7 +1,7 @@
 //! The rule sheet's table of sixteen, cases A to P.
 
 use crate::number::*;
-use crate::{facet, judge, judging_line, outline, read_tape, walk, walking_line, write_tape};
+use crate::{judge, judging_line, look_up, outline, read_tape, walk, walking_line, write_tape};
 
 const POINTS: [i32; 12] = [0, 0, 0, 1, 0, 0, 0, 1, 0, 0, 0, 1];
 const CORNERS: [u16; 12] = [0, 2, 1, 0, 1, 3, 0, 3, 2, 1, 2, 3];
@@ -154,14 +154,14 @@ fn walk_refusals_leave_the_trail() {
 
 #[test]
 fn facet_look_up() {
-    let run = CORNERS;
-    let look = |number| facet(&POINTS, &run, &BEGINS, number);
-    assert_eq!(look(3), [1, 2, 3]);
-    assert_eq!(look(3).as_ptr(), run[9..].as_ptr());
-    assert!(look(4).is_empty() && look(u32::MAX).is_empty());
-    assert_eq!(look(4).as_ptr(), run.as_ptr());
-    assert!(facet(&POINTS[..11], &CORNERS, &BEGINS, 0).is_empty());
-    assert!(facet(&[], &[], &[], 0).is_empty());
+    let look = |facet| look_up(&POINTS, &CORNERS, &BEGINS, facet);
+    assert_eq!([0, 1, 2, 3].map(look), [[0, 3], [3, 3], [6, 3], [9, 3]]);
+    assert_eq!(CORNERS[9..], [1, 2, 3]);
+    assert_eq!([4, u32::MAX].map(look), [[0, 0]; 2]);
+    let without_last = look_up(&POINTS, &CORNERS[..9], &BEGINS[..4], 0);
+    assert_eq!(without_last, [0, 0]);
+    let star = look_up(&STAR_POINTS, &STAR_CORNERS, &STAR_BEGINS, 9);
+    assert_eq!(star, [27, 3]);
 }
 
 #[test]

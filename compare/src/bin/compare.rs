@@ -169,12 +169,13 @@ fn proved() -> Result<Box<dyn Library>, String> {
     Err(format!("built without the proved library\n\n{USAGE}"))
 }
 
-const KINDS: [&str; 7] = [
+const KINDS: [&str; 8] = [
     "judge",
     "walk",
     "outline",
     "read",
     "write",
+    "look-up",
     "judging program",
     "walking program",
 ];
@@ -186,8 +187,9 @@ fn kind(case: &Case) -> usize {
         Case::Outline(_) => 2,
         Case::Read { .. } => 3,
         Case::Write { .. } => 4,
-        Case::JudgingProgram(_) => 5,
-        Case::WalkingProgram { .. } => 6,
+        Case::LookUp { .. } => 5,
+        Case::JudgingProgram(_) => 6,
+        Case::WalkingProgram { .. } => 7,
     }
 }
 
@@ -283,6 +285,7 @@ fn line(case: &Case) -> String {
                 lent(tables)
             )
         }
+        Case::LookUp { tables, facet } => format!("F{} {facet}", lent(tables)),
         Case::JudgingProgram(input) => format!("L{}{}", counted(&input.bytes), late(input)),
         Case::WalkingProgram { tape, input } => {
             let file = match tape {

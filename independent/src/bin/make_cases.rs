@@ -1,16 +1,15 @@
 //! Prints stored cases, one a line: the input, a colon, and the answer of the literal judge, byte for byte as it is to be printed.
 
-use independent::generate::{damage, outlines, pattern, solids, tapes, walk_input, words};
+use independent::generate::{damage, hull_of, outlines, pattern, solids, tapes, walk_input, words};
 use independent::generate::{writer_room, Mesh, Rng, Tables};
 use independent::number::*;
-use independent::{facet, judge, judging_line, outline, read_tape, walk, walking_line, write_tape};
-use independent::{BEGIN_ROOM, CORNER_ROOM, POINT_ROOM};
+use independent::{judge, judging_line, look_up, outline, read_tape, walk, walking_line};
+use independent::{write_tape, BEGIN_ROOM, CORNER_ROOM, POINT_ROOM};
 use solids::Extent;
 use std::fmt::Display;
 use std::io::{self, BufWriter, Write};
 
-const ABOUT: &str =
-    "the few cases at the upper limits, or those of the facet look-up, in place of the small ones";
+const ABOUT: &str = "the few cases at the upper limits in place of the small ones";
 const SEED: u64 = 20_260_101;
 const MOST_VERTICES: usize = 20;
 /// How many entries past the need are printed, to show that they keep their values.
@@ -31,12 +30,12 @@ fn main() -> io::Result<()> {
             outline_cases(&mut printer, &mut rng)?;
             reader_cases(&mut printer, &mut rng)?;
             writer_cases(&mut printer, &mut rng)?;
+            look_up_cases(&mut printer)?;
             program_cases(&mut printer, &mut rng)?;
         }
         Some("--large") => large_cases(&mut printer, &mut rng)?,
-        Some("--look-up") => return look_up_cases(&mut printer, &mut rng),
         Some(other) => {
-            eprintln!("make_cases [--large | --look-up], not {other}: {ABOUT}");
+            eprintln!("make_cases [--large], not {other}: {ABOUT}");
             std::process::exit(2);
         }
     }
@@ -148,9 +147,16 @@ impl<W: Write> Printer<W> {
         write!(self.out, "M{}{} :{line}", counted(tape), counted(input))
     }
 
-    fn look_up(&mut self, t: &Tables, number: u32) -> io::Result<()> {
-        let part = facet(&t.points, &t.corners, &t.begins, number);
-        writeln!(self.out, "F{} {number} :{}", lent(t), counted(part))
+    fn look_up(&mut self, t: &Tables, facet: u32) -> io::Result<()> {
+        let [first, length] = look_up(&t.points, &t.corners, &t.begins, facet);
+        let part = &t.corners[first as usize..][..length as usize];
+        self.count(ACCEPTED);
+        writeln!(
+            self.out,
+            "F{} {facet} : {ACCEPTED} {first} {length} |{}",
+            lent(t),
+            numbers(part)
+        )
     }
 
     fn count(&mut self, number: i64) {
@@ -485,6 +491,99 @@ fn writer_cases<W: Write>(printer: &mut Printer<W>, rng: &mut Rng) -> io::Result
     Ok(())
 }
 
+/// A prism over eight corners with six vertices cut off: facets of 3 to 8, of 10 and of 12 corners.
+fn cut_prism() -> Tables {
+    let ring = [
+        [24, 12],
+        [12, 24],
+        [-12, 24],
+        [-24, 12],
+        [-24, -12],
+        [-12, -24],
+        [12, -24],
+        [24, -12],
+    ];
+    let mut points = Vec::new();
+    for (z, cut) in [(0, 4), (24, 2)] {
+        for (i, [x, y]) in ring.into_iter().enumerate() {
+            if i >= cut {
+                points.push([x, y, z]);
+                continue;
+            }
+            // A quarter of the way to each of the three vertices that an edge joins to this one.
+            for [to_x, to_y] in [ring[(i + 1) % 8], ring[(i + 7) % 8]] {
+                points.push([x + (to_x - x) / 4, y + (to_y - y) / 4, z]);
+            }
+            points.push([x, y, z + (12 - z) / 2]);
+        }
+    }
+    let hull = hull_of(&points).expect("a solid with no facet past 12 corners");
+    hull.tables()
+}
+
+/// One facet of each length over twelve vertices; not a solid, but SIZE does not apply.
+fn every_length() -> Tables {
+    let facets: Vec<Vec<u16>> = (3..=12).map(|length| (0..length).rev().collect()).collect();
+    let points: Vec<[i32; 3]> = (0..12).map(|i| [i, i * i, -i]).collect();
+    Mesh { points, facets }.tables()
+}
+
+/// Each way SIZE can apply to tables of a few entries.
+fn size_refused() -> Vec<Tables> {
+    let t = tables(&T_POINTS, &T_FACETS);
+    let changed = |change: fn(&mut Tables)| {
+        let mut t = t.clone();
+        change(&mut t);
+        t
+    };
+    let with_last = |last: &[u16]| {
+        let mut facets = T_FACETS;
+        facets[3] = last;
+        tables(&T_POINTS, &facets)
+    };
+    vec![
+        Tables::default(),
+        tables(&T_POINTS[..3], &T_FACETS),
+        tables(&T_POINTS, &T_FACETS[..3]),
+        with_last(&[1, 2]),
+        with_last(&[0; 13]),
+        changed(|t| t.points.push(0)),
+        changed(|t| t.corners.push(0)),
+        changed(|t| t.begins.clear()),
+        changed(|t| t.begins.truncate(1)),
+        changed(|t| t.begins[0] = 1),
+        changed(|t| t.begins[4] = 13),
+        changed(|t| t.begins.swap(1, 2)),
+    ]
+}
+
+fn look_up_cases<W: Write>(printer: &mut Printer<W>) -> io::Result<()> {
+    let sheet = sheet_tables();
+    for facet in [0, 1, 2, 3, 4, 65_536, u32::MAX] {
+        printer.look_up(&sheet[0], facet)?;
+    }
+    let prism = cut_prism();
+    let lengths: Vec<u16> = prism.begins.windows(2).map(|w| w[1] - w[0]).collect();
+    for length in 3..=12 {
+        // The last of its length, so that the part starts well inside the run.
+        if let Some(facet) = lengths.iter().rposition(|&l| l == length) {
+            printer.look_up(&prism, facet as u32)?;
+        }
+    }
+    printer.look_up(&prism, lengths.len() as u32)?;
+    for facet in [0, 6, 9, 10] {
+        printer.look_up(&every_length(), facet)?;
+    }
+    for t in size_refused() {
+        printer.look_up(&t, 1)?;
+    }
+    // Numbers 2 and up do not matter to the look-up.
+    for t in &sheet[3..] {
+        printer.look_up(t, 3)?;
+    }
+    Ok(())
+}
+
 fn program_cases<W: Write>(printer: &mut Printer<W>, rng: &mut Rng) -> io::Result<()> {
     let t = tape_of_t();
     for solid in sheet_solids() {
@@ -547,7 +646,9 @@ fn program_cases<W: Write>(printer: &mut Printer<W>, rng: &mut Rng) -> io::Resul
 
 fn large_cases<W: Write>(printer: &mut Printer<W>, rng: &mut Rng) -> io::Result<()> {
     for _ in 0..12 {
-        printer.judge(&damage::at_a_size_limit(rng))?;
+        let t = damage::at_a_size_limit(rng);
+        printer.judge(&t)?;
+        printer.look_up(&t, t.begins.len() as u32 - 2)?;
         let tape = tapes::at_the_limits(rng);
         printer.read(&tape, ROOMS)?;
         printer.judging(&tape)?;
@@ -568,19 +669,4 @@ fn large_cases<W: Write>(printer: &mut Printer<W>, rng: &mut Rng) -> io::Result<
     long.resize(21_600, 1);
     printer.judging(&long)?;
     printer.walking(&long, b"0 1 1 1")
-}
-
-fn look_up_cases<W: Write>(printer: &mut Printer<W>, rng: &mut Rng) -> io::Result<()> {
-    for t in sheet_tables().iter().chain(&sharp_tables()) {
-        for number in [0, 3, 4, u32::MAX] {
-            printer.look_up(t, number)?;
-        }
-    }
-    for _ in 0..60 {
-        let number = i64::from(rng.between(0, 12));
-        let t = aimed(rng, number);
-        let facets = t.begins.len();
-        printer.look_up(&t, rng.below(facets + 1) as u32)?;
-    }
-    printer.out.flush()
 }

@@ -1,9 +1,9 @@
 //! One call of the library with all that is lent to it, or one run of a program with its input.
 
-use super::damage::{aimed_at, any_tables};
+use super::damage::{aimed_at, any_tables, at_a_size_limit, wrapped_sizes};
 use super::solids::Extent;
 use super::{outlines, tapes, words, Mesh, Rng, Tables};
-use crate::number::ACCEPTED;
+use crate::number::{ACCEPTED, SIZE};
 
 /// A call or a run and its input; `salt` fixes what the lent entries hold beforehand.
 #[derive(Clone, Debug, PartialEq, Eq)]
@@ -25,6 +25,10 @@ pub enum Case {
         tables: Tables,
         room: usize,
         salt: usize,
+    },
+    LookUp {
+        tables: Tables,
+        facet: u32,
     },
     JudgingProgram(Input),
     /// Without a tape there is no file.
@@ -64,7 +68,7 @@ pub fn pattern(i: usize, salt: usize) -> u8 {
 
 /// Any case of any kind.
 pub fn any_case(rng: &mut Rng) -> Case {
-    match rng.below(25) {
+    match rng.below(27) {
         0..=7 => Case::Judge(any_tables(rng)),
         8..=11 => walk(rng),
         12..=14 if rng.one_in(60) => Case::Outline(outlines::at_the_count_limit(rng)),
@@ -88,7 +92,8 @@ pub fn any_case(rng: &mut Rng) -> Case {
             }
         }
         20..=21 => judging_program(rng),
-        _ => walking_program(rng),
+        22..=24 => walking_program(rng),
+        _ => look_up(rng),
     }
 }
 
@@ -130,6 +135,39 @@ fn walk(rng: &mut Rng) -> Case {
         start,
         direction,
         trail: (0..length).map(|_| rng.below(1 << 16) as u16).collect(),
+    }
+}
+
+/// Tables for the look-up: SIZE is the one rule that matters to it.
+fn look_up(rng: &mut Rng) -> Case {
+    let tables = match rng.below(16) {
+        0..=3 => aimed_at(SIZE, Extent::Small, rng),
+        4 if rng.one_in(10) => wrapped_sizes(rng),
+        4 => at_a_size_limit(rng),
+        5..=9 => any_tables(rng),
+        _ => sound_tables(rng),
+    };
+    let facet = look_up_input(&tables, rng);
+    Case::LookUp { tables, facet }
+}
+
+/// A facet number for the tables: most are below F, some are F and some are far above.
+fn look_up_input(tables: &Tables, rng: &mut Rng) -> u32 {
+    let facets = tables.begins.len().saturating_sub(1) as u32;
+    let below = rng.below(facets.max(1) as usize) as u32;
+    match rng.below(8) {
+        0 => facets,
+        1 => facets.saturating_sub(1),
+        // Some of these would be below F if they were cut down to 16 bits or taken with a sign.
+        2 => rng.pick(&[
+            facets + 1,
+            65_535,
+            65_536 + below,
+            (1 << 31) + below,
+            u32::MAX - below,
+            u32::MAX,
+        ]),
+        _ => below,
     }
 }
 
@@ -195,7 +233,6 @@ pub fn walk_input(tables: &Tables, rng: &mut Rng) -> (u32, [i32; 3], usize) {
 #[cfg(test)]
 mod tests {
     use super::*;
-    use crate::generate::damage::at_a_size_limit;
     use crate::number::*;
     use crate::{judge, judging_line, outline, read_tape, walk, walking_line, write_tape};
 
@@ -229,6 +266,7 @@ mod tests {
             Case::Write {
                 tables: t, room, ..
             } => write_tape(&t.points, &t.corners, &t.begins, &mut vec![0; room]).0,
+            Case::LookUp { .. } => ACCEPTED,
             Case::JudgingProgram(input) => of_line(judging_line(&input.bytes)),
             Case::WalkingProgram { tape, input } => {
                 of_line(walking_line(&tape.unwrap_or_default(), &input.bytes))
@@ -263,6 +301,34 @@ mod tests {
         }
         assert!(walking[START as usize] > 100, "{walking:?}");
         assert!(walking[DIRECTION as usize] > 100, "{walking:?}");
+    }
+
+    #[test]
+    fn look_ups_meet_all_there_is() {
+        let mut rng = Rng::new(10);
+        // By SIZE, other rules and sound tables: the first facet, others, the last, F, up to 65,535, above.
+        let mut counts = [[0; 6]; 3];
+        for _ in 0..3000 {
+            let Case::LookUp { tables: t, facet } = super::look_up(&mut rng) else {
+                panic!("not a look-up");
+            };
+            let table = match judge(&t.points, &t.corners, &t.begins)[0] {
+                SIZE => 0,
+                ACCEPTED => 2,
+                _ => 1,
+            };
+            let facets = t.begins.len().saturating_sub(1) as u32;
+            let number = match facet {
+                65_536.. => 5,
+                _ if facet > facets => 4,
+                _ if facet == facets => 3,
+                _ if facet == facets - 1 => 2,
+                0 => 0,
+                _ => 1,
+            };
+            counts[table][number] += 1;
+        }
+        assert!(counts.iter().flatten().all(|&n| n > 10), "{counts:?}");
     }
 
     #[test]
