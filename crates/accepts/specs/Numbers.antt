@@ -3,7 +3,7 @@
 use mathlib.Core.Path.{_≡_, refl, sym, ap, _∙_}
 use mathlib.Core.Logic.{_↔_}
 use mathlib.Core.Bool.{Bool, true, false, cond, true≢false}
-use mathlib.Core.List.{List, []}
+use mathlib.Core.List.{List}
 use Prim.Native.Nat.{ℕ, _<_}
 use native.Mathlib.Omega.{arith}
 use native.Mathlib.Decide.{decLt}
@@ -11,12 +11,11 @@ use lib.Dec.{ltb}
 use lib.IntN.{ℤ}
 use borrow.Author.Tests.{ltb-true, eq-eqb, ne-eqb}
 use Rattle.tables.specs.Search.{ofAll, applies-never, first-applies, differ}
-use Rattle.tables.specs.Size.{isSize, Laid}
+use Rattle.tables.specs.Size.{isSize}
 use Rattle.tables.specs.declared.Found.{Found}
 use Rattle.tables.specs.declared.Found.the-variants.{At, Nothing}
 use Rattle.answers.specs.Answer.{fault, answerOf}
 use Rattle.answers.specs.Order.{Rule, Given, here, after, given, firstOf, placeFor, none-for, above, ascending, lowest-wins}
-use Rattle.answers.specs.declared.Answer.{Answer}
 use Rattle.answers.specs.declared.Fault.{Fault}
 use Rattle.answers.specs.declared.Fault.the-variants.{Breaks, None}
 use Rattle.limits.specs.InOrder.{InOrder, laid}
@@ -31,6 +30,11 @@ use Rattle.accepts.specs.Rows.{rules-ascend}
 -- no rule of the list with a number below n applies anywhere
 abbrev pub PassesBelow : List Rule → ℕ → Type 0
 PassesBelow rs n = (k : ℕ) → k < n → placeFor rs k ≡ Nothing
+
+-- a search that doesn't find nothing finds a place
+pub some-place : {x : Found} → (x ≡ Nothing → ⊥) → (a b : ℕ) × (x ≡ At a b)
+some-place {x = At a b} h = (a, b, refl)
+some-place {x = Nothing} h = absurd (h refl)
 
 -- ---- in a list whose numbers ascend
 
@@ -81,21 +85,38 @@ module _ (points : List ℤ) (corners begins : List ℕ) where
   abbrev pub Pass : ℕ → Type 0
   Pass n = PassesBelow (rules points corners begins) n
 
-  pub answered-exactly : (k a b : ℕ) → 0 < k
-      → judged points corners begins ≡ fault k a b ↔ (Pass k × (placeFor (rules points corners begins) k ≡ At a b))
-  unfolding judged
-  answered-exactly k a b l =
-      let rs = rules points corners begins in
-      let (to, back) = first-exactly rs (rules-ascend points corners begins) k a b in
-      (λ e. to (breaks (firstOf rs) e), λ h. ap (answerOf points corners begins) (back h))
-    where
-      breaks : (x : Fault) → answerOf points corners begins x ≡ fault k a b → x ≡ Breaks k a b
-      breaks (Breaks j c d) e =
-          let n = ap (λ x. x .number) e in
-          let f = ap (λ x. x .first) e in
-          let s = ap (λ x. x .second) e in
-          cc
-      breaks None e = absurd (omega (arith, ap (λ x. x .number) e))
+  -- number k applies first at (a, b)
+  abbrev pub AppliesAt : ℕ → ℕ → ℕ → Type 0
+  AppliesAt k a b = placeFor (rules points corners begins) k ≡ At a b
+
+  -- an answer's number and places are those of the first fault
+  breaks : (x : Fault) {k : ℕ} → 0 < k → answerOf points corners begins x .number ≡ k
+      → x ≡ Breaks k (answerOf points corners begins x .first) (answerOf points corners begins x .second)
+  breaks (Breaks j c d) l e = cc
+  breaks None l e = absurd (omega arith)
+
+  module _ (k : ℕ) (l : 0 < k) where
+    pub answered-exactly : (a b : ℕ) → judged points corners begins ≡ fault k a b ↔ (Pass k × AppliesAt k a b)
+    unfolding judged
+    answered-exactly a b =
+        let rs = rules points corners begins in
+        let (to, back) = first-exactly rs (rules-ascend points corners begins) k a b in (
+          λ e.
+              let first : answerOf points corners begins (firstOf rs) .first ≡ a = ap (λ x. x .first) e in
+              let second : answerOf points corners begins (firstOf rs) .second ≡ b = ap (λ x. x .second) e in
+              to (rw (first, second) at (breaks (firstOf rs) l (ap (λ x. x .number) e))),
+          λ h. ap (answerOf points corners begins) (back h),
+        )
+
+    pub number-exactly : judged points corners begins .number ≡ k ↔ (Pass k × (a b : ℕ) × AppliesAt k a b)
+    unfolding judged
+    number-exactly = (
+      λ e.
+          let b = breaks (firstOf (rules points corners begins)) l e in
+          let (P, h) = answered-exactly _ _ .0 (ap (answerOf points corners begins) b) in
+          (P, _, _, h),
+      λ (P, a, b, h). ap (λ x. x .number) (answered-exactly a b .1 (P, h)),
+    )
 
   -- what tables that pass 1 to 3, 1 to 6 and 1 to 8 have
   pub in-order : {n : ℕ} → Pass n → 3 < n → InOrder points corners begins

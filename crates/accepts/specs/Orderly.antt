@@ -1,12 +1,12 @@
 -- 1 to 3 in plain quantifiers. SIZE: "points not in threes; V, F or corners outside limits; begins don't start at 0, end at the run's length, or give a
 -- facet fewer than 3 or more than 12 corners". RANGE: "a coordinate is outside its limits". INDEX: "a corner number is V or more". Assumes nothing.
-use mathlib.Core.Path.{_≡_, refl, sym, _∙_}
+use mathlib.Core.Path.{_≡_, refl}
 use mathlib.Core.Logic.{_↔_}
-use mathlib.Core.Bool.{false, not, _||_}
+use mathlib.Core.Bool.{false, not}
 use mathlib.Core.List.{List}
-use Prim.Native.Nat.{ℕ, _+_, _-_, _*_, _/_, _%_, _≤_, _<_}
+use Prim.Native.Nat.{ℕ, zero, suc, _+_, _-_, _*_, _/_, _%_, _≤_, _<_}
 use native.Mathlib.Omega.{arith}
-use lib.Dec.{eqb, ltb}
+use lib.Dec.{eqb}
 use lib.IntN.{ℤ, pos, negℤ}
 use lib.ListN.{length, getD}
 use lib.Signed.{_≤ℤ_}
@@ -16,17 +16,18 @@ use Rattle.whole.specs.Count.{neither}
 use Rattle.whole.specs.Bounds.{_within_, within-between, within-high, within-low}
 use Rattle.points.specs.Points.{Ranged, coordOf}
 use Rattle.points.specs.Range.{limit}
-use Rattle.tables.specs.Size.{wrongLengths, wrongEnds, wrongSides, isSize, sized}
+use Rattle.tables.specs.Size.{wrongLengths, isSize}
 use Rattle.tables.specs.Places.{Sound}
+use Rattle.tables.specs.Search.{ofAll, never-applies}
 use Rattle.bridge.specs.Lower.{sound-index}
 use Rattle.bridge.specs.Surface.{tablesOf}
 use Rattle.limits.specs.Rules.{limits-in}
 use Rattle.limits.specs.InOrder.{InOrder}
-use Rattle.flat.specs.Facet.{Measured}
 use Rattle.solid.specs.Tables.{Convex}
 use Rattle.stages.specs.Known.{measured}
 use Rattle.judge.specs.Judge.{judged}
 use Rattle.accepts.specs.Meaning.{accepts-exactly}
+use Rattle.accepts.specs.Numbers.{Pass, in-order as order-of}
 
 pub record Orderly (points : List ℤ) (corners begins : List ℕ) : Type 0 where
   -- "three .. numbers x, y, z for each vertex"
@@ -57,6 +58,40 @@ entry points z R i l =
     rw e at (R (i / 3) (i % 3) (omega arith) (omega arith))
 
 module _ {points : List ℤ} {corners begins : List ℕ} where
+  in-order : Orderly points corners begins → InOrder points corners begins
+  unfolding isSize coordOf
+  in-order o = record { sizes = sizes; ranges = limits-in points ranged; numbers = sound-index sound }
+    where
+      sizes : isSize points corners begins ≡ false
+      sizes = rw (
+        eq-eqb _ _ (o .threes),
+        le-ltb _ _ (o .many-vertices),
+        le-ltb _ _ (o .few-vertices),
+        le-ltb _ _ (o .many-facets),
+        le-ltb _ _ (o .few-facets),
+        le-ltb _ _ (o .few-corners),
+        eq-eqb _ _ (o .start),
+        eq-eqb _ _ (o .finish),
+      ) (any-none _ _ (λ f l. let (a, b) = o .sides f (omega arith) in rw (le-ltb _ (getD begins f 0 + 3) a, le-ltb (getD begins f 0 + 12) _ b)))
+
+      ranged : Ranged points
+      ranged v k l h = let (a, b) = o .coordinates (v * 3 + k) (omega arith) in within-between _ _ a b
+
+      sound : Sound (length points / 3) corners begins
+      sound = record {
+        many = o .many-vertices;
+        laid = record {
+          some = o .many-facets;
+          most = o .few-facets;
+          short = o .few-corners;
+          start = o .start;
+          finish = o .finish;
+          rise = λ f l. o .sides f l .0;
+          narrow = λ f l. o .sides f l .1;
+        };
+        named = record { few = o .few-vertices; short = o .few-corners; index = o .numbers };
+      }
+
   orderly : InOrder points corners begins → Orderly points corners begins
   unfolding isSize
   orderly o =
@@ -79,42 +114,19 @@ module _ {points : List ℤ} {corners begins : List ℕ} where
         numbers = s .named .index;
       }
 
-  in-order : Orderly points corners begins → InOrder points corners begins
-  unfolding isSize coordOf
-  in-order o = record { sizes = sizes; ranges = limits-in points ranged; numbers = sound-index sound }
-    where
-      sizes : isSize points corners begins ≡ false
-      sizes = rw (
-        eq-eqb _ _ (o .threes),
-        le-ltb _ _ (o .many-vertices),
-        le-ltb _ _ (o .few-vertices),
-        le-ltb _ _ (o .many-facets),
-        le-ltb _ _ (o .few-facets),
-        le-ltb _ _ (o .few-corners),
-        eq-eqb _ _ (o .start),
-        eq-eqb _ _ (o .finish),
-      ) (any-none _ _ (λ f l. let (a, b) = o .sides f (omega arith) in rw (le-ltb _ _ a, le-ltb _ _ b)))
-
-      ranged : Ranged points
-      ranged v k l h = let (a, b) = o .coordinates (v * 3 + k) (omega arith) in within-between _ _ a b
-
-      sound : Sound (length points / 3) corners begins
-      sound = record {
-        many = o .many-vertices;
-        laid = record {
-          some = o .many-facets;
-          most = o .few-facets;
-          short = o .few-corners;
-          start = o .start;
-          finish = o .finish;
-          rise = λ f l. o .sides f l .0;
-          narrow = λ f l. o .sides f l .1;
-        };
-        named = record { few = o .few-vertices; short = o .few-corners; index = o .numbers };
-      }
-
   pub orderly-exactly : InOrder points corners begins ↔ Orderly points corners begins
   orderly-exactly = (orderly, in-order)
+
+-- so exactly such tables pass the numbers below 4
+pub limits-exactly : (points : List ℤ) (corners begins : List ℕ) → Pass points corners begins 4 ↔ Orderly points corners begins
+limits-exactly points corners begins = (λ P. orderly (order-of points corners begins P (omega arith)), λ W. below (in-order W))
+  where
+    below : InOrder points corners begins → Pass points corners begins 4
+    below o zero l = refl
+    below o (suc zero) l = never-applies (ofAll (isSize points corners begins)) (o .sizes)
+    below o (suc (suc zero)) l = o .ranges
+    below o (suc (suc (suc zero))) l = o .numbers
+    below o (suc (suc (suc (suc k)))) l = absurd (omega arith)
 
 -- demand 2's sentence on acceptance, over these
 pub accepts-orderly : (points : List ℤ) (corners begins : List ℕ)

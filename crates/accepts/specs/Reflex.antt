@@ -1,6 +1,6 @@
 -- 11, REFLEX: "some corner of the facet across this edge, other than the edge's ends, isn't strictly inside this facet's plane"; "lowest facet and then
 -- lowest position". In tables that pass 1 to 10 one facet stands across each edge, and REFLEX names exactly the first such place. Assumes nothing.
-use mathlib.Core.Path.{_≡_, refl, sym, ap, _∙_}
+use mathlib.Core.Path.{_≡_, refl, sym, _∙_}
 use mathlib.Core.Logic.{_↔_, _⊎_, inl, inr, _≢_}
 use mathlib.Core.Bool.{Bool, true, false, cond, not, true≢false}
 use mathlib.Core.List.{List}
@@ -14,10 +14,10 @@ use borrow.Author.Tests.{eq-eqb, ne-eqb, not-true, ltb-true}
 use Rattle.whole.specs.First.{firstBelow, anyBelow, first-holds, any-is}
 use Rattle.whole.specs.Count.{is-false}
 use Rattle.sides.specs.Sides.{isInside, inside-below, below-inside}
-use Rattle.tables.specs.Tables.{facets, sides, facetOf, cornerOf}
+use Rattle.tables.specs.Tables.{facetOf}
 use Rattle.tables.specs.Size.{Laid}
 use Rattle.tables.specs.Places.{part-length}
-use Rattle.tables.specs.Search.{placeOf, applies-first, first-applies}
+use Rattle.tables.specs.Search.{placeOf, applies-first, first-applies, applies-never}
 use Rattle.tables.specs.declared.Found.the-variants.{At}
 use Rattle.answers.specs.Answer.{fault}
 use Rattle.pair.specs.Pair.{Paired}
@@ -26,18 +26,18 @@ use Rattle.limits.specs.InOrder.{laid}
 use Rattle.bridge.specs.Surface.{tablesOf}
 use Rattle.solid.specs.Tables.{Tables, Place, Corner, Inside, Closed, next}
 use Rattle.shape.specs.Flat.{next-is}
-use Rattle.shape.specs.Folds.{facing, facing-is, opposite}
+use Rattle.shape.specs.Folds.{facing, opposite}
 use Rattle.reflex.specs.Rules.{isNotInside, isReflex, reflex}
 use Rattle.judge.specs.Judge.{judged}
-use Rattle.accepts.specs.Numbers.{Pass, answered-exactly, in-order, paired, closed}
+use Rattle.accepts.specs.Numbers.{Pass, some-place, answered-exactly, number-exactly, in-order, paired, closed}
 
 -- place (g, q) is before (f, p): "lowest facet and then lowest position"
 abbrev pub Before : ℕ → ℕ → ℕ → ℕ → Type 0
 Before g q f p = (g < f) ⊎ ((g ≡ f) × (q < p))
 
 -- a corner that is neither end and fails the test
-strays : (c a b : ℕ) (x : Bool) → cond (eqb c a) false (cond (eqb c b) false (not x)) ≡ true → (c ≢ a) × (c ≢ b) × (x ≡ false)
-strays c a b x e = elim (ℕ-discrete c a) [
+other-fails : (c a b : ℕ) (x : Bool) → cond (eqb c a) false (cond (eqb c b) false (not x)) ≡ true → (c ≢ a) × (c ≢ b) × (x ≡ false)
+other-fails c a b x e = elim (ℕ-discrete c a) [
   | yes s ↦ absurd (true≢false (sym e ∙ rw (eq-eqb c a s)))
   | no ca ↦ elim (ℕ-discrete c b) [
     | yes s ↦ absurd (true≢false (sym e ∙ rw (ne-eqb c a ca, eq-eqb c b s)))
@@ -45,8 +45,8 @@ strays c a b x e = elim (ℕ-discrete c a) [
   ]
 ]
 
-straying : (c a b : ℕ) (x : Bool) → c ≢ a → c ≢ b → x ≡ false → cond (eqb c a) false (cond (eqb c b) false (not x)) ≡ true
-straying c a b x ca cb e = rw (ne-eqb c a ca, ne-eqb c b cb, e)
+fails-other : (c a b : ℕ) (x : Bool) → c ≢ a → c ≢ b → x ≡ false → cond (eqb c a) false (cond (eqb c b) false (not x)) ≡ true
+fails-other c a b x ca cb e = rw (ne-eqb c a ca, ne-eqb c b cb, e)
 
 module _ (points : List ℤ) (corners begins : List ℕ) where
   abbrev t : Tables
@@ -109,6 +109,18 @@ module _ (points : List ℤ) (corners begins : List ℕ) where
 
     -- the test of one place
     module _ {f p : ℕ} where
+      test-of : Reflex f p → isReflex points corners begins f p ≡ true
+      unfolding isReflex one-across
+      test-of r =
+          let g = one-across (r .place) .facet in
+          let s : r .facet ≡ g = one-across (r .place) .only (r .across) .0 in
+          let c : Corner t g (r .vertex) = rw s at (r .corner-of) in
+          let e : corner g (c .i) ≡ r .vertex = c .names in
+          let x : isInside (sideAt points (facetOf corners begins f) (r .vertex)) ≡ false = is-false _ (λ i. r .not-inside (inside-below _ i)) in
+          rw (next-is points L f p (r .place .facet))
+          (any-is _ (length (facetOf corners begins g)) (c .i) (rw (part-length L (c .place .facet)) (c .place .position))
+          (rw e (fails-other _ _ _ _ (r .not-start) (r .not-end) x)))
+
       applies : Place t f p → isReflex points corners begins f p ≡ true → Reflex f p
       unfolding isReflex one-across
       applies l e =
@@ -120,7 +132,7 @@ module _ (points : List ℤ) (corners begins : List ℕ) where
           let m = firstBelow test (length other) in
           let h = ltb-true m (length other) e in
           let k : Place t (o .facet) m = record { facet = o .across .place .facet; position = omega (arith, part-length L (o .across .place .facet)) } in
-          let (a, b, x) = strays _ _ _ _ (first-holds test (length other) h) in
+          let (a, b, x) = other-fails _ _ _ _ (first-holds test (length other) h) in
           record {
             place = l;
             facet = o .facet;
@@ -133,17 +145,8 @@ module _ (points : List ℤ) (corners begins : List ℕ) where
             not-inside = λ i. true≢false (sym (below-inside i) ∙ x);
           }
 
-      test-of : Reflex f p → isReflex points corners begins f p ≡ true
-      unfolding isReflex one-across
-      test-of r =
-          let g = one-across (r .place) .facet in
-          let s : r .facet ≡ g = one-across (r .place) .only (r .across) .0 in
-          let c : Corner t g (r .vertex) = rw s at (r .corner-of) in
-          let e : corner g (c .i) ≡ r .vertex = c .names in
-          let x : isInside (sideAt points (facetOf corners begins f) (r .vertex)) ≡ false = is-false _ (λ i. r .not-inside (inside-below _ i)) in
-          rw (next-is points L f p (r .place .facet))
-          (any-is _ (length (facetOf corners begins g)) (c .i) (rw (part-length L (c .place .facet)) (c .place .position))
-          (rw e (straying _ _ _ _ (r .not-start) (r .not-end) x)))
+      pub applies-exactly : Place t f p → isReflex points corners begins f p ≡ true ↔ Reflex f p
+      applies-exactly l = (applies l, test-of)
 
     pub reflex-exactly : (f p : ℕ) → placeOf (reflex points corners begins) ≡ At f p ↔ FirstReflex f p
     reflex-exactly f p = (
@@ -152,7 +155,7 @@ module _ (points : List ℤ) (corners begins : List ℕ) where
           let before : (g q : ℕ) → Before g q f p → ¬ Reflex g q = λ g q b r.
           elim b [
             | inl l ↦ true≢false (sym (test-of r) ∙ h .earlier g q l (r .place .position))
-            | inr (s, l) ↦ true≢false (sym (rw s at (test-of r)) ∙ h .place .before q l)
+            | inr (s, l) ↦ true≢false (sym (rw s at (test-of r)) ∙ h .place .before q (omega arith))
           ]
           in
           record {
@@ -172,8 +175,21 @@ module _ (points : List ℤ) (corners begins : List ℕ) where
       }),
     )
 
-  -- the judge answers 11, f and p exactly when the tables pass 1 to 10 and this is the first place
+    -- where it applies, some place is named
+    named : {f p : ℕ} → Reflex f p → (a b : ℕ) × (placeOf (reflex points corners begins) ≡ At a b)
+    named {f} {p} r =
+        some-place (λ e.
+        let none = applies-never (reflex points corners begins) e in
+        true≢false (sym (test-of r) ∙ none f p (r .place .facet) (r .place .position)))
+
+  -- the judge answers 11 exactly when the tables pass 1 to 10 and REFLEX applies somewhere ..
+  pub number-reflex : judged points corners begins .number ≡ 11 ↔ (Pass points corners begins 11 × (f p : ℕ) × Reflex f p)
+  number-reflex =
+      let (to, back) = number-exactly points corners begins 11 (omega arith) in
+      (λ e. let (P, f, p, h) = to e in (P, f, p, reflex-exactly P f p .0 h .here), λ (P, f, p, r). let (a, b, h) = named P r in back (P, a, b, h))
+
+  -- .. and names f and p exactly when this is the first place
   pub judged-reflex : (f p : ℕ) → judged points corners begins ≡ fault 11 f p ↔ (Pass points corners begins 11 × FirstReflex f p)
   judged-reflex f p =
-      let (to, back) = answered-exactly points corners begins 11 f p (omega arith) in
+      let (to, back) = answered-exactly points corners begins 11 (omega arith) f p in
       (λ e. let (P, a) = to e in (P, reflex-exactly P f p .0 a), λ (P, a). back (P, reflex-exactly P f p .1 a))
