@@ -36,16 +36,16 @@ module _ (points : List ℤ) {corners begins : List ℕ} (L : Laid corners begin
   below p = place-names points L p .below
 
   -- the facet across the edge at position i of f
-  abbrev facing : ℕ → ℕ → ℕ
+  abbrev pub facing : ℕ → ℕ → ℕ
   facing f i = facetAcross corners begins (begin begins f + i)
 
   -- position j of g names the reverse of the edge at position i of f
-  record Opposite (f i g j : ℕ) : Type 0 where
+  pub record Opposite (f i g j : ℕ) : Type 0 where
     pub start : cornerOf corners begins g j ≡ next t f i
     pub end : next t g j ≡ cornerOf corners begins f i
 
   module _ (P : Paired corners begins) where
-    facing-is : {f i g j : ℕ} → Place t f i → Place t g j → Opposite f i g j → facing f i ≡ g
+    pub facing-is : {f i g j : ℕ} → Place t f i → Place t g j → Opposite f i g j → facing f i ≡ g
     facing-is {f} {i} {g} {j} p q o =
         let r = across P (below p) in
         let starts = r .starts ∙ to-is p ∙ sym (o .start) ∙ sym (from-is q) in
@@ -53,7 +53,7 @@ module _ (points : List ℤ) {corners begins : List ℕ} (L : Laid corners begin
         ap (homeOf begins) (edge-once P (r .below) (below q) starts ends) ∙ sym (home-is L (place-in L (q .facet) (q .position)))
 
     -- and there is such a position
-    opposite : {f i : ℕ} → Place t f i → (j : ℕ) × Place t (facing f i) j × Opposite f i (facing f i) j
+    pub opposite : {f i : ℕ} → Place t f i → (j : ℕ) × Place t (facing f i) j × Opposite f i (facing f i) j
     opposite {f} {i} p =
         let r = across P (below p) in
         let g = facing f i in
