@@ -56,11 +56,17 @@ pub fn read_all(fd: i32, buf: &mut [u8]) -> Taken
         let got = read_on(fd, rest);
         let more = io::count(got, rest);
         if more == 0 {
-            return Taken { len: done, failed: got < 0 };
+            return Taken {
+                len: done,
+                failed: got < 0,
+            };
         }
         done += more;
     }
-    Taken { len: done, failed: false }
+    Taken {
+        len: done,
+        failed: false,
+    }
 }
 
 // Writes all of buf: false where a write fails or takes nothing.
