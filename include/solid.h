@@ -1,7 +1,18 @@
-/* The functions of the proved library for C and Rust. Link target/staticlib/libexports.a, which `rt staticlib exports` writes.
- * A slice is a pointer and its number of entries; it must be valid for that many, and no two lent for writing may overlap.
- * Each function takes every input, and returns the sheet's answer number. Where `out` has fewer entries than the
- * function has numbers, nothing is written to it. */
+/* The functions of the proved library for C and Rust. Link target/staticlib/libexports.a, which tools/library builds.
+ * Each function takes every input, tests it itself, ends, and returns the sheet's answer number. Where `out` has fewer entries than
+ * the function has numbers, nothing is written to it.
+ *
+ * What the caller owes, and no function can test. A slice is a pointer and its number of entries.
+ * - The pointer is valid for that many entries, for reading and, where it isn't const, for writing, until the call returns.
+ * - It is aligned as C aligns its entries: int64_t to 8 bytes, int32_t to 4, uint16_t to 2.
+ * - A slice lent for writing overlaps no other slice of the call, whether that one is written or only read. Slices that are only read
+ *   may overlap each other.
+ * - NULL goes with length 0, and with no other length; tools/lent.c tries it at each slice.
+ * - The stack has 128 KiB left: the judge's and the walk's tables are 57 KiB of it.
+ * Where one of these doesn't hold, the proofs say nothing of the call: it may answer wrongly, alter any byte that it can reach, or end
+ * the program. (Tape and points in one buffer, for one, reads zeros.)
+ *
+ * The functions keep nothing between calls and share nothing, so threads may call them at the same time. */
 #ifndef SOLID_H
 #define SOLID_H
 
