@@ -13,7 +13,7 @@ use Rattle.tape.specs.Reading.{lookAt, after, run, readTape}
 use Rattle.tape.specs.Look.{tells}
 use Rattle.tape.specs.declared.Next.{Next}
 use Rattle.tape.specs.declared.Next.the-variants.{Point, Facet, End, Bad}
-use Rattle.reading.specs.declared.Reading.the-variants.{Read, Refused}
+use Rattle.reading.specs.declared.Reading.the-variants.{Refused}
 
 -- the number of one of the reader's refusals, and an offset in the input or at its end
 pub record Refusal (s : List ℕ) (number offset : ℕ) : Type 0 where

@@ -48,6 +48,9 @@ walked-cut tape d start = of-tape-cut (walkedFrom d start) atNothing tape
 abbrev pub inputRoom : ℕ
 inputRoom = longest + 1
 
+pub input-room : inputRoom ≡ 257
+input-room = refl
+
 module _ (input : List ℕ) where
   long-cut : ltb longest (length (take inputRoom input)) ≡ ltb longest (length input)
   long-cut =
@@ -73,7 +76,8 @@ module _ (input : List ℕ) where
 pub judge-cut : (tape : List ℕ) → judgeNumbers (take tapeRoom tape) ≡ judgeNumbers tape
 judge-cut tape = ap placesOf (judged-cut tape)
 
+pub input-cut : (tape input : List ℕ) → walkNumbers tape (take inputRoom input) ≡ walkNumbers tape input
+input-cut tape input = ap₂ (λ d start. movesOf (walkedTape tape d start)) (direction-cut input) (start-cut input)
+
 pub walk-cut : (tape input : List ℕ) → walkNumbers (take tapeRoom tape) (take inputRoom input) ≡ walkNumbers tape input
-walk-cut tape input =
-    ap₂ (λ d start. movesOf (walkedTape (take tapeRoom tape) d start)) (direction-cut input) (start-cut input)
-    ∙ ap movesOf (walked-cut tape (directionIn input) (startIn input))
+walk-cut tape input = input-cut (take tapeRoom tape) input ∙ ap movesOf (walked-cut tape (directionIn input) (startIn input))

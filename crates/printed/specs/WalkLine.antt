@@ -1,5 +1,5 @@
 -- The walk program's line, in the sheet's words: which refusal, or which walk, is printed. Assumes nothing.
-use mathlib.Core.Path.{_≡_, refl, sym, ap, ap₂, _∙_, subst}
+use mathlib.Core.Path.{_≡_, refl, sym, ap, _∙_, subst}
 use mathlib.Core.Logic.{_≢_}
 use mathlib.Core.Bool.{Bool, true, false}
 use mathlib.Core.List.{List, [], _∷_}
@@ -7,15 +7,13 @@ use Prim.Native.Nat.{ℕ, _+_, _*_, _≤_, _<_}
 use native.Mathlib.Decide.{ℕ-discrete, decLt}
 use native.Mathlib.Omega.{arith}
 use lib.IntN.{ℤ, pos}
-use lib.ListN.{length}
-use Rattle.points.specs.Points.{vertices}
 use Rattle.tables.specs.Tables.{mostVertices}
 use Rattle.reading.specs.declared.Reading.{Reading}
 use Rattle.reading.specs.declared.Reading.the-variants.{Read, Refused}
 use Rattle.tape.specs.Reading.{readTape, pointsAt, cornersAt, beginsAt}
 use Rattle.tape.specs.Whole.{read-whole}
 use Rattle.accepts.specs.Meaning.{is-measured}
-use Rattle.direction.specs.Direction.{direction, isWrong, Permitted, permitted, wrong-exactly}
+use Rattle.direction.specs.Direction.{direction, isWrong, permitted, wrong-exactly}
 use Rattle.direction.specs.declared.Direction.{Direction}
 use Rattle.walk.specs.Meaning.{Granted, WalkEnd, walk-end-is}
 use Rattle.walk.specs.Meaning as Walk
@@ -68,9 +66,6 @@ module _ (tape input : List ℕ) where
     by-end : {r : Walked} {t : List ℕ} → End r t → movesOf r ≡ walkNumbers tape input
     by-end x = ap movesOf (walk-end-is _ _ _ _ _ _ x .0 ∙ is-walked (directionIn input) (startIn input))
 
-    named-start : {start : ℕ} → NamesStart input v start → startIn input ≡ start
-    named-start n = says-start few (n .says) (n .below)
-
     start-named : startIn input < v → NamesStart input v (startIn input)
     start-named l = record { says = start-says few _ l; below = l }
 
@@ -96,7 +91,7 @@ module _ (tape input : List ℕ) where
           )
 
       as-named : walkedAt tape v f (direction x y z) start ≡ walkedTape tape (directionIn input) (startIn input)
-      as-named = rw (named-direction m, named-start n) (is-walked (direction x y z) start)
+      as-named = rw (named-direction m, says-start few (n .says) (n .below)) (is-walked (direction x y z) start)
 
   -- each of them is printed ..
   pub walk-line-is : {zs : List ℤ} → WalkLine zs → zs ≡ walkNumbers tape input
@@ -108,7 +103,7 @@ module _ (tape input : List ℕ) where
       let l : v ≤ startIn input = elim (decLt (startIn input) v) [ yes l ↦ absurd (none _ (start-named e l)) | no l ↦ omega arith ] in
       by-end e (Walk.START a (rw (count-points tape v f) l))
   walk-line-is (DIRECTION {v} {f} e a n none) =
-      let l : startIn input < v = rw (named-start e n) (n .below) in
+      let l : startIn input < v = rw (says-start (few e) (n .says) (n .below)) (n .below) in
       by-end e (Walk.DIRECTION a (rw (count-points tape v f) l) (λ p. none _ _ _ (direction-named input p)))
   walk-line-is (WALKED e a n m) = sym (is-moved e a n m) ∙ ap movesOf (as-named e a n m)
 
@@ -129,7 +124,7 @@ module _ (tape input : List ℕ) where
       go (Read v f c) e = elim (ℕ-discrete (judgedAt tape v f .number) 0) [
         | no n ↦ given (JUDGED e n)
         | yes a ↦ elim (decLt (startIn input) v) [
-          | no l ↦ given (START e a (λ start n. absurd (omega (arith, named-start e n, n .below))))
+          | no l ↦ given (START e a (λ start n. absurd (omega (arith, says-start (few e) (n .says) (n .below), n .below))))
           | yes l ↦ from-direction (isWrong (directionIn input)) refl e a (start-named e l)
         ]
       ]
