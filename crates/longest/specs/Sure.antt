@@ -122,9 +122,9 @@ module _ {s t : List ℕ} (A : Alike s t) where
 pub read-cut : (s : List ℕ) → readTape (take tapeRoom s) ≡ readTape s
 read-cut s = elim (decLt tapeRoom (length s)) [
   | yes l ↦ read-alike (record {
-      long = omega (arith, length-take-le tapeRoom s (omega arith));
-      long-too = omega arith;
-      same = λ i h. getD-take tapeRoom s i 0 h;
-    })
+    long = omega (arith, length-take-le tapeRoom s (omega arith));
+    long-too = omega arith;
+    same = λ i h. getD-take tapeRoom s i 0 h;
+  })
   | no l ↦ ap readTape (take-all tapeRoom s (omega arith))
 ]
