@@ -1,12 +1,13 @@
 -- What the start and the direction of the walk program's input stand for. Assumes nothing.
 use mathlib.Core.Path.{_≡_, refl, sym, ap, _∙_}
-use mathlib.Core.Bool.{Bool, true, false, cond}
-use mathlib.Core.List.{List}
+use mathlib.Core.Bool.{Bool, true, false, cond, false≢true}
+use mathlib.Core.List.{List, []}
 use Prim.Native.Nat.{ℕ, _≤_, _<_}
+use native.Mathlib.Decide.{decLt}
 use native.Mathlib.Omega.{arith}
 use lib.Dec.{ltb}
 use lib.IntN.{ℤ, pos, negsuc}
-use lib.ListN.{length}
+use lib.ListN.{length, List·getD-eq-default}
 use borrow.Author.Tests.{ltb-false, le-ltb}
 use Rattle.whole.specs.Bounds.{_within_, within-≤, not-exceeds, exceeds}
 use Rattle.whole.specs.Count.{neither}
@@ -22,6 +23,9 @@ use Rattle.input.specs.Input.{longest, split, startOf, noVertex, negative, noPa
 pub record Says (word : List ℕ) (z : ℤ) : Type 0 where
   pub is-number : isNumber word ≡ true
   pub is-value : value word ≡ z
+
+pub missing : (z : ℤ) → ¬ Says [] z
+missing z s = false≢true (s .is-number)
 
 -- ---- the start
 
@@ -80,6 +84,15 @@ pub record NamesDirection (input : List ℕ) (x y z : ℤ) : Type 0 where
   pub says-y : Says (wordOf isBlank (split input) 2) y
   pub says-z : Says (wordOf isBlank (split input) 3) z
   pub permitted : Permitted (direction x y z)
+
+-- so there are four words, no more and no less
+pub four-words : {input : List ℕ} {x y z : ℤ} → NamesDirection input x y z → length (words isBlank (split input)) ≡ 4
+four-words {input} {z = z} n =
+    let ws = words isBlank (split input) in
+    elim (decLt 3 (length ws)) [
+      | yes l ↦ omega (arith, n .four)
+      | no l ↦ absurd (missing z (rw (List·getD-eq-default ws [] {n = 3} (omega arith)) at (n .says-z)))
+    ]
 
 pub named-direction : {input : List ℕ} {x y z : ℤ} → NamesDirection input x y z → directionIn input ≡ direction x y z
 unfolding directionIn

@@ -38,6 +38,7 @@ moved w = pos 0 ∷ pos (w .vertex) ∷ w .height ∷ pos (w .moves) ∷ []
 
 module _ (tape input : List ℕ) where
   pub data WalkLine : List ℤ → Type 0 where
+    -- "the reader's included"
     UNREAD : {number offset : ℕ} → readTape tape ≡ Refused number offset → WalkLine (refusal number)
     -- "After the judge's refusals"
     JUDGED : {v f c : ℕ} → readTape tape ≡ Read v f c → judgedAt tape v f .number ≢ 0 → WalkLine (refusal (judgedAt tape v f .number))
