@@ -1,5 +1,9 @@
--- What the walk program's line says, refusal by refusal; and a line, read again.
+-- What the two programs' lines say, in the sheet's words; how much of their inputs settles them; and a line, read again.
 pub mod Back
 pub mod Cases
+pub mod Cut
 pub mod Meaning
-pub mod Order
+pub mod Small
+pub mod Tables
+pub mod JudgeLine
+pub mod WalkLine

@@ -1,12 +1,13 @@
 -- What the start and the direction of the walk program's input stand for. Assumes nothing.
 use mathlib.Core.Path.{_≡_, refl, sym, ap, _∙_}
-use mathlib.Core.Bool.{Bool, true, false, cond}
-use mathlib.Core.List.{List}
+use mathlib.Core.Bool.{Bool, true, false, cond, false≢true}
+use mathlib.Core.List.{List, []}
 use Prim.Native.Nat.{ℕ, _≤_, _<_}
+use native.Mathlib.Decide.{decLt}
 use native.Mathlib.Omega.{arith}
 use lib.Dec.{ltb}
 use lib.IntN.{ℤ, pos, negsuc}
-use lib.ListN.{length}
+use lib.ListN.{length, List·getD-eq-default}
 use borrow.Author.Tests.{ltb-false, le-ltb}
 use Rattle.whole.specs.Bounds.{_within_, within-≤, not-exceeds, exceeds}
 use Rattle.whole.specs.Count.{neither}
@@ -18,12 +19,22 @@ use Rattle.numbers.specs.declared.Read.the-variants.{Number, Malformed}
 use Rattle.direction.specs.Direction.{direction, steepest, Permitted}
 use Rattle.input.specs.Input.{longest, split, startOf, noVertex, negative, noPart, partOf, isCrowded, directionIn}
 
--- a word is a number, of the value z
+-- a word is a number, of the value z; one that is missing has no byte, and says none
 pub record Says (word : List ℕ) (z : ℤ) : Type 0 where
   pub is-number : isNumber word ≡ true
   pub is-value : value word ≡ z
 
--- ---- the start: v is V, and a word that is a number from 0 to V - 1 stands for that vertex, and no other word stands for one
+pub missing : (z : ℤ) → ¬ Says [] z
+missing z s = false≢true (s .is-number)
+
+-- ---- the start
+
+-- the first word is a number from 0 to V - 1
+pub record NamesStart (input : List ℕ) (v start : ℕ) : Type 0 where
+  pub says : Says (wordOf isBlank (split input) 0) (pos start)
+  pub below : start < v
+
+-- v is V: a word that is a number from 0 to V - 1 stands for that vertex, and no other word stands for one
 
 module _ {v : ℕ} (few : v ≤ mostVertices) where
   pub says-start : {word : List ℕ} {n : ℕ} → Says word (pos n) → n < v → startOf (readOf word) ≡ n
@@ -72,10 +83,21 @@ pub record NamesDirection (input : List ℕ) (x y z : ℤ) : Type 0 where
   pub says-x : Says (wordOf isBlank (split input) 1) x
   pub says-y : Says (wordOf isBlank (split input) 2) y
   pub says-z : Says (wordOf isBlank (split input) 3) z
+  pub permitted : Permitted (direction x y z)
 
-pub named-direction : {input : List ℕ} {x y z : ℤ} → NamesDirection input x y z → Permitted (direction x y z) → directionIn input ≡ direction x y z
+-- so there are four words, no more and no less
+pub four-words : {input : List ℕ} {x y z : ℤ} → NamesDirection input x y z → length (words isBlank (split input)) ≡ 4
+four-words {input} {z = z} n =
+    let ws = words isBlank (split input) in
+    elim (decLt 3 (length ws)) [
+      | yes l ↦ omega (arith, n .four)
+      | no l ↦ absurd (missing z (rw (List·getD-eq-default ws [] {n = 3} (omega arith)) at (n .says-z)))
+    ]
+
+pub named-direction : {input : List ℕ} {x y z : ℤ} → NamesDirection input x y z → directionIn input ≡ direction x y z
 unfolding directionIn
-named-direction {input} n p =
+named-direction {input} n =
+    let p = n .permitted in
     rw (
       le-ltb longest (length input) (n .short),
       le-ltb 4 (length (words isBlank (split input))) (n .four),
@@ -105,4 +127,5 @@ direction-named input p = go (isCrowded input) refl p
           says-x = part-says _ (p .x);
           says-y = part-says _ (p .y);
           says-z = part-says _ (p .z);
+          permitted = p;
         }
