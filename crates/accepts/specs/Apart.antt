@@ -3,34 +3,31 @@ use mathlib.Core.Path.{_≡_, refl, sym, ap, _∙_}
 use mathlib.Core.Logic.{_↔_}
 use mathlib.Core.Bool.{not, true≢false}
 use mathlib.Core.List.{List}
-use Prim.Native.Nat.{ℕ, _+_, _<_}
+use Prim.Native.Nat.{ℕ, _<_}
 use native.Mathlib.Omega.{arith}
 use lib.IntN.{ℤ}
 use borrow.Author.Tests.{not-true, not-false}
-use Rattle.whole.specs.Rounds.{first, arc}
 use Rattle.whole.specs.Count.{is-false}
-use Rattle.tables.specs.Tables.{facets, begin, homeOf}
+use Rattle.tables.specs.Tables.{facets}
+use Rattle.points.specs.Points.{vertices}
 use Rattle.tables.specs.Size.{Laid}
+use Rattle.tables.specs.Places.{Sound}
 use Rattle.tables.specs.Search.{placeOf, applies-first, first-applies}
 use Rattle.tables.specs.declared.Found.the-variants.{At}
 use Rattle.answers.specs.Answer.{fault}
-use Rattle.edges.specs.Edge.{facetAcross}
 use Rattle.pair.specs.Pair.{Paired}
-use Rattle.pair.specs.Flat.{position}
 use Rattle.apart.specs.Apart.{apart, Reached as Flood, flooded-all, flooded-only, apart-means}
-use Rattle.limits.specs.InOrder.{laid}
-use Rattle.bridge.specs.Surface.{tablesOf, place-names}
-use Rattle.solid.specs.Reach.{Linked, self, link}
-use Rattle.solid.specs.Tables.{Tables, Place, Edge, next}
-use Rattle.shape.specs.Folds.{facing, Opposite, facing-is, opposite}
+use Rattle.bridge.specs.Surface.{tablesOf}
+use Rattle.bridge.specs.Closed.{linked, unlinked}
+use Rattle.solid.specs.Reach.{Linked}
+use Rattle.solid.specs.Tables.{Tables, Edge}
+use Rattle.stages.specs.Known.{measured}
 use Rattle.judge.specs.Judge.{judged}
 use Rattle.accepts.specs.Numbers.{Pass, some-place, answered-exactly, number-exactly, in-order, paired}
 
 module _ (points : List ℤ) (corners begins : List ℕ) where
   abbrev t : Tables
   t = tablesOf points corners begins
-
-  open Tables t using (corner)
 
   -- facet f can be reached: facet 0 can, and where g can, g has an edge from a to b and h the edge from b to a, so can h
   abbrev pub Reached : ℕ → Type 0
@@ -43,34 +40,21 @@ module _ (points : List ℤ) (corners begins : List ℕ) where
     pub lower : (g : ℕ) → g < f → Reached g
 
   module _ (P : Pass points corners begins 8) where
+    S : Sound (vertices points) corners begins
+    S = measured (in-order points corners begins P (omega arith)) .sound
+
     L : Laid corners begins
-    L = laid (in-order points corners begins P (omega arith))
+    L = S .laid
 
     M : Paired corners begins
     M = paired points corners begins P (omega arith)
 
-    -- the flooding reaches what can be reached ..
+    -- the flooding reaches what can be reached, and only that
     reached : {f : ℕ} → Flood corners begins f → Reached f
-    reached first = self
-    reached (arc {p} r l) =
-        let o = position L l in
-        let f = homeOf begins p in
-        let i = o .at in
-        let q : Place t f i = record { facet = o .facet; position = o .side } in
-        let (j, k, e) = opposite points L M q in
-        let here : Edge t f (corner f i) (next t f i) = record { i = i; place = q; from = refl; to = refl } in
-        let there : Edge t (facing points L f i) (next t f i) (corner f i) = record { i = j; place = k; from = e .start; to = e .end } in
-        rw (ap (facetAcross corners begins) (o .is)) at (link (reached r) here there)
+    reached = linked points S M
 
-    -- .. and only that
     flood : {f : ℕ} → Reached f → Flood corners begins f
-    flood self = first
-    flood (link {g} {h} r here there) =
-        let n = place-names points L (here .place) in
-        let o : Opposite points L g (here .i) h (there .i) = record { start = there .from ∙ sym (here .to); end = there .to ∙ sym (here .from) } in
-        let e : facing points L g (here .i) ≡ h = facing-is points L M (here .place) (there .place) o in
-        let k : Flood corners begins (facing points L g (here .i)) = arc {p = begin begins g + here .i} (rw (n .facet) (flood r)) (n .below) in
-        rw e at k
+    flood = unlinked points S M
 
     pub apart-exactly : (f : ℕ) → placeOf (apart corners begins) ≡ At f 0 ↔ Apart f
     apart-exactly f = (

@@ -2,20 +2,19 @@
 -- tables pass every number below it and it applies first at this place. Assumes nothing.
 use mathlib.Core.Path.{_≡_, refl, sym, ap, _∙_}
 use mathlib.Core.Logic.{_↔_}
-use mathlib.Core.Bool.{Bool, true, false, cond, true≢false}
+use mathlib.Core.Bool.{true}
 use mathlib.Core.List.{List}
 use Prim.Native.Nat.{ℕ, _<_}
 use native.Mathlib.Omega.{arith}
 use native.Mathlib.Decide.{decLt}
-use lib.Dec.{ltb}
 use lib.IntN.{ℤ}
-use borrow.Author.Tests.{ltb-true, eq-eqb, ne-eqb}
+use borrow.Author.Tests.{eq-eqb, ne-eqb}
 use Rattle.tables.specs.Search.{ofAll, applies-never, first-applies, differ}
 use Rattle.tables.specs.Size.{isSize}
 use Rattle.tables.specs.declared.Found.{Found}
 use Rattle.tables.specs.declared.Found.the-variants.{At, Nothing}
 use Rattle.answers.specs.Answer.{fault, answerOf}
-use Rattle.answers.specs.Order.{Rule, Given, here, after, given, firstOf, placeFor, none-for, above, ascending, lowest-wins}
+use Rattle.answers.specs.Order.{Rule, Given, here, after, given, firstOf, placeFor, none-for, above, ascending, split, above-each, lowest-wins}
 use Rattle.answers.specs.declared.Fault.{Fault}
 use Rattle.answers.specs.declared.Fault.the-variants.{Breaks, None}
 use Rattle.limits.specs.InOrder.{InOrder, laid}
@@ -38,22 +37,14 @@ some-place {x = Nothing} h = absurd (h refl)
 
 -- ---- in a list whose numbers ascend
 
-halves : (s t : Bool) → cond s t false ≡ true → (s ≡ true) × (t ≡ true)
-halves true t e = (refl, e)
-halves false t e = absurd (true≢false (sym e))
-
-above-given : {rs : List Rule} {n k a b : ℕ} → above n rs ≡ true → Given rs (Breaks k a b) → n < k
-unfolding above
-above-given {n = n} e (here {r} {rs} h) = ltb-true n (r .number) (halves (ltb n (r .number)) (above n rs) e .0)
-above-given {n = n} e (after {r} {rs} h g) = above-given (halves (ltb n (r .number)) (above n rs) e .1) g
-
 given-place : {rs : List Rule} {k a b : ℕ} → ascending rs ≡ true → Given rs (Breaks k a b) → placeFor rs k ≡ At a b
 unfolding ascending
 given-place e (here {r} h) = rw (eq-eqb (r .number) (r .number) refl) (first-applies (r .search) h)
 given-place {k = k} e (after {r} {rs} h g) =
-    let (u, v) = halves (above (r .number) rs) (ascending rs) e in
-    let l = above-given u g in
-    rw (ne-eqb (r .number) k (λ z. omega arith)) (given-place v g)
+    let (u, v) = split (above (r .number) rs) (ascending rs) e in
+    let p = given-place v g in
+    let l = above-each (r .number) rs u k p in
+    rw (ne-eqb (r .number) k (λ z. omega arith)) p
 
 module _ (rs : List Rule) (up : ascending rs ≡ true) (k a b : ℕ) where
   first-exactly : firstOf rs ≡ Breaks k a b ↔ (PassesBelow rs k × (placeFor rs k ≡ At a b))

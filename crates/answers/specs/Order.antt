@@ -174,11 +174,11 @@ unfoldable pub ascending : List Rule → Bool
 ascending [] = true
 ascending (r ∷ rs) = cond (above (r .number) rs) (ascending rs) false
 
-split : (s t : Bool) → cond s t false ≡ true → (s ≡ true) × (t ≡ true)
+pub split : (s t : Bool) → cond s t false ≡ true → (s ≡ true) × (t ≡ true)
 split true t e = (refl, e)
 split false t e = absurd (true≢false (sym e))
 
-above-each : (n : ℕ) (rs : List Rule) → above n rs ≡ true → (k : ℕ) {c d : ℕ} → placeFor rs k ≡ At c d → n < k
+pub above-each : (n : ℕ) (rs : List Rule) → above n rs ≡ true → (k : ℕ) {c d : ℕ} → placeFor rs k ≡ At c d → n < k
 unfolding above
 above-each n [] e k p = absurd (differ (sym p))
 above-each n (r ∷ rs) e k {c} {d} p =

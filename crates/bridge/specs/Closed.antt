@@ -66,9 +66,25 @@ module _ (points : List ℤ) {corners begins : List ℕ} (S : Sound (vertices po
         let (b, s, a) = around l e j in
         (step-below laid P b, step-leaves laid P b ∙ s, rw (step-home laid P b) (hop a (rw s at (edge b)) (rw s at (opposite b))))
 
-    linked : {g : ℕ} → Reached corners begins g → Linked (Edge T) 0 g
+    -- the reverse of an edge stands across it
+    crossed : {f g v w p q : ℕ} → Runs corners begins f v w p → Runs corners begins g w v q → acrossOf corners begins p ≡ q
+    crossed a b =
+        let r = across P (a .names .below) in
+        edge-once P (r .below) (b .names .below) (r .starts ∙ a .ends ∙ sym (b .names .starts)) (r .ends ∙ a .names .starts ∙ sym (b .ends))
+
+    -- what is reached is linked to facet 0 by edges ..
+    pub linked : {g : ℕ} → Reached corners begins g → Linked (Edge T) 0 g
     linked first = self
     linked (arc r l) = link (linked r) (edge l) (opposite l)
+
+    -- .. and the other way round
+    pub unlinked : {g : ℕ} → Linked (Edge T) 0 g → Reached corners begins g
+    unlinked self = first
+    unlinked (link a o i) =
+        let (x, r) = edge-runs points laid o in
+        let (y, t) = edge-runs points laid i in
+        let k : Reached corners begins (facetAcross corners begins x) = arc {p = x} (rw (r .names .facet) (unlinked a)) (r .names .below) in
+        rw (ap (homeOf begins) (crossed r t) ∙ t .names .facet) at k
 
     one-ring : {v : ℕ} → v < vertices points → Used (vertices points) corners → OneRing corners begins v → Ring (Corner T) (Edge T) v
     one-ring {v} h U o =
@@ -144,12 +160,6 @@ module _ (points : List ℤ) {corners begins : List ℕ} (S : Sound (vertices po
     P : Paired corners begins
     P = paired-if matched
 
-    -- the reverse of an edge stands across it
-    crossed : {f g v w p q : ℕ} → Runs corners begins f v w p → Runs corners begins g w v q → acrossOf corners begins p ≡ q
-    crossed a b =
-        let r = across P (a .names .below) in
-        edge-once P (r .below) (b .names .below) (r .starts ∙ a .ends ∙ sym (b .names .starts)) (r .ends ∙ a .names .starts ∙ sym (b .ends))
-
     stepped : {f g v p q : ℕ} → Names corners begins f v p → Around (Edge T) v f g → Names corners begins g v q → RoundTo corners begins p q
     unfolding iterate roundOf
     stepped n here m = (0, single .repeats _ _ (n .below) (m .below) (n .facet ∙ sym (m .facet)) (n .starts ∙ sym (m .starts)))
@@ -159,15 +169,7 @@ module _ (points : List ℤ) {corners begins : List ℕ} (S : Sound (vertices po
         let (j, z) = stepped n a (r .names) in
         let b = t .names .below in
         let e = single .repeats _ _ (next-below laid b) (m .below) (next-home laid b ∙ t .names .facet ∙ sym (m .facet)) (t .ends ∙ sym (m .starts)) in
-        (suc j, ap (roundOf corners begins) z ∙ ap (nextOf begins) (crossed r t) ∙ e)
-
-    unlinked : {g : ℕ} → Linked (Edge T) 0 g → Reached corners begins g
-    unlinked self = first
-    unlinked (link a o i) =
-        let (x, r) = edge-runs points laid o in
-        let (y, t) = edge-runs points laid i in
-        let k : Reached corners begins (facetAcross corners begins x) = arc {p = x} (rw (r .names .facet) (unlinked a)) (r .names .below) in
-        rw (ap (homeOf begins) (crossed r t) ∙ t .names .facet) at k
+        (suc j, ap (roundOf corners begins) z ∙ ap (nextOf begins) (crossed P r t) ∙ e)
 
   pub shut : Closed T → Shut (vertices points) corners begins
   shut C = record {
@@ -181,7 +183,7 @@ module _ (points : List ℤ) {corners begins : List ℕ} (S : Sound (vertices po
         (λ q b s.
         let m : Names corners begins (homeOf begins q) v q = record { below = b; facet = refl; starts = s } in
         stepped C n (R .reached (names-corner points laid m)) m));
-    no-8 = means-apart laid (P C) (λ f l. unlinked C (C .reached f l));
+    no-8 = means-apart laid (P C) (λ f l. unlinked (P C) (C .reached f l));
   }
 
   pub closed-exactly : Shut (vertices points) corners begins ↔ Closed T
