@@ -16,3 +16,4 @@ pub mod Flood
 pub mod Joined
 pub mod Over
 pub mod Begin
+pub mod Lies
