@@ -27,8 +27,8 @@ returns-2 : tie.Need-returns-2
 returns-2 c =
     let w = c .before .before in
     let t = w .before .before .before in
-    let n = rw (w .wide .ensures .is, t .before .facet .ensures .is) at (c .before .note-part2 .ensures) in
-    (n .number-is, rw (there t .1) (n .out-is))
+    let n = c .before .note-part2 .ensures in
+    (n .number-is, rw (← (t .before .facet .ensures .is), there t .1, ← (w .wide .ensures .is)) (n .out-is))
 
 pub solid-facet-spec : {M : Type 1} → statement M
 solid-facet-spec =
