@@ -1,4 +1,4 @@
--- Whole numbers, and the searches, counts and tables of them that the other crates cite.
+-- Whole numbers, and the searches, counts, tables and runs of them that the other crates cite.
 pub mod IntRing
 pub mod Solver
 pub mod Order

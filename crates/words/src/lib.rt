@@ -70,7 +70,9 @@ fn nth(text: &[u8], set: &[u8], k: usize) -> Span
 
 // Word number k, counted from 0: the part of the text itself, the empty part at its end where there are not so many words.
 pub fn word<'a>(text: &'a [u8], set: &[u8], k: usize) -> &'a [u8]
-    ensures { λ r. ⌜ Lies 1 (text .entry) (wordAt (among (now (set .entry))) (now (text .entry)) k) (wordOf (among (now (set .entry))) (now (text .entry)) k) r ⌝ }
+    ensures { λ r. ⌜ Lies 1 (text .entry)
+        (wordAt (among (now (set .entry))) (now (text .entry)) k)
+        (wordOf (among (now (set .entry))) (now (text .entry)) k) r ⌝ }
 {
     let at = nth(text, set, k);
     let start = at.start;
