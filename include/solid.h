@@ -32,6 +32,11 @@ uint16_t solid_walk(const int32_t *points, size_t points_len, const uint16_t *co
                     const uint16_t *begins, size_t begins_len, uint32_t start, int32_t dx, int32_t dy, int32_t dz,
                     uint16_t *trail, size_t trail_len, int64_t *out, size_t out_len);
 
+/* Looks up a facet's corners. out, 2 numbers: the first's place in the run of corners, and how many; both 0 where the tables don't pass
+ * SIZE or there is no such facet. The number is always 0. */
+uint16_t solid_facet(const int32_t *points, size_t points_len, const uint16_t *corners, size_t corners_len,
+                     const uint16_t *begins, size_t begins_len, uint32_t facet, int64_t *out, size_t out_len);
+
 /* Judges an outline, x and y in turn. out, 1 number: the count where 0 is returned, else the place. */
 uint16_t solid_outline(const int32_t *points, size_t points_len, int64_t *out, size_t out_len);
 

@@ -18,6 +18,9 @@ fn on_tables(
     if letter == b'W' {
         return case_walk::walk_case(text, from, points, corners, begins);
     }
+    if letter == b'F' {
+        return case_facet::facet_case(text, from, points, corners, begins);
+    }
     if letter == b'T' {
         return case_write::write_case(text, from, points, corners, begins);
     }
@@ -25,7 +28,7 @@ fn on_tables(
     from
 }
 
-// J, W, T: reads a solid's tables, then runs the case. Where the text goes on.
+// J, W, F, T: reads a solid's tables, then runs the case. Where the text goes on.
 fn solid_case(letter: u8, text: &[u8], from: usize) -> usize {
     let mut at = from;
     let mut points = [0i32; LIST];

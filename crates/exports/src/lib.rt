@@ -1,5 +1,7 @@
 // The functions for Rust and C: numbers and slices only.
 ghost use mathlib.Core.Path.{_≡_};
+ghost use lib.ListN.{length};
+ghost use Rattle.tables.specs.LookUp.{lookUp, lookUpAt};
 ghost use Rattle.judge.specs.Judge.{judged};
 ghost use Rattle.outline.specs.Outline.{judgedOutline};
 ghost use Rattle.reading.specs.Answer.{answerNumber};
@@ -8,7 +10,7 @@ ghost use Rattle.writer.specs.Answer.{written, bufferAfter};
 ghost use Rattle.direction.specs.Direction.{direction};
 ghost use Rattle.walk.specs.Walk.{walked, trailAfter};
 ghost use Rattle.out.specs.Noted.{noted};
-ghost use Rattle.notes.specs.Out.{places, course, counts, place};
+ghost use Rattle.notes.specs.Out.{places, course, counts, place, extent};
 
 // The judge of a solid. `out` gets the three places, and the number is returned.
 #[no_mangle]
@@ -50,6 +52,29 @@ pub extern "C" fn solid_walk(
         out,
         walk::walk(points, corners, begins, direction, start as usize, trail),
     )
+}
+
+// The facet look-up. `out` gets where its part begins in the run and how many corners it has, both 0 where it refuses, and 0 is returned.
+#[no_mangle]
+pub extern "C" fn solid_facet(
+    points: &[i32],
+    corners: &[u16],
+    begins: &[u16],
+    facet: u32,
+    out: &mut [i64],
+) -> u16
+    ensures number { λ r. ⌜ r ≡ 0 ⌝ }
+    ensures out { λ _. ⌜ now (out .exit) ≡
+        noted (extent (lookUpAt (now (points .entry)) (now (corners .entry)) (now (begins .entry)) facet)
+        (length (lookUp (now (points .entry)) (now (corners .entry)) (now (begins .entry)) facet)))
+        (now (out .entry)) ⌝ }
+{
+    let f = facet as usize;
+    let part = tables::facet(points, corners, begins, f);
+    if part.len() == 0 {
+        return notes::note_part(out, 0, 0);
+    }
+    notes::note_part(out, tables::wide(begins[f]), part.len())
 }
 
 // The judge of an outline. `out` gets the place or the count, and the number is returned.

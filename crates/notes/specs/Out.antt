@@ -30,3 +30,7 @@ counts r = three (firstValue r) (secondValue r) (thirdValue r)
 
 abbrev pub place : Verdict → List ℤ
 place v = numberOf (v .place) ∷ []
+
+-- a part of a run: where it begins, and how many entries it has
+abbrev pub extent : ℕ → ℕ → List ℤ
+extent begin entries = numberOf begin ∷ numberOf entries ∷ []

@@ -1,6 +1,6 @@
 // What the functions for Rust and C tell of an answer: its number is returned, and its other values are noted in `out`.
 ghost use Rattle.reading.specs.Answer.{answerNumber};
-ghost use Rattle.notes.specs.Out.{NumberAndNotes, places, course, counts, place};
+ghost use Rattle.notes.specs.Out.{NumberAndNotes, places, course, counts, place, extent};
 
 // The judge's answer, or the tape writer's: the three places.
 pub fn note_answer(out: &mut [i64], answer: answers::Answer) -> u16
@@ -50,4 +50,13 @@ pub fn note_reading(out: &mut [i64], read: reading::Reading) -> u16
             number
         }
     }
+}
+
+// The facet look-up's: where its part begins in the run, and how many corners it has. It "carries no number": 0.
+pub fn note_part(out: &mut [i64], begin: usize, sides: usize) -> u16
+    ensures { λ r. ⌜ NumberAndNotes 0 (extent begin sides) (now (out .entry)) (now (out .exit)) r ⌝ }
+{
+    let numbers = [lines::number_of(begin), lines::number_of(sides)];
+    out::note(out, &numbers);
+    0
 }

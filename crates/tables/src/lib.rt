@@ -3,9 +3,10 @@ ghost use mathlib.Core.Path.{_≡_};
 ghost use Prim.Native.Nat.{_+_, _≤_, _<_};
 ghost use lib.ListN.{length};
 ghost use Rattle.whole.specs.First.{anyBelow};
-ghost use Rattle.tables.specs.Tables.{Widened, facets, facetOf};
+ghost use Rattle.whole.specs.Lies.{Lies};
+ghost use Rattle.tables.specs.Tables.{Widened, facets, begin, facetOf};
 ghost use Rattle.tables.specs.Size.{wrongLengths, wrongEnds, wrongSides, isSize, Laid};
-ghost use Rattle.tables.specs.LookUp.{lookUp};
+ghost use Rattle.tables.specs.LookUp.{lookUpAt, lookUp};
 
 const LEAST_VERTICES: usize = 4;
 
@@ -113,7 +114,7 @@ pub fn size(points: &[i32], corners: &[u16], begins: &[u16]) -> bool
 // The part of the run that has the corners of facet f.
 pub fn part<'a>(corners: &'a [u16], begins: &[u16], f: usize) -> &'a [u16]
     requires { ⌜ Laid (now corners) (now begins) × (f < facets (now begins)) ⌝ }
-    ensures { λ r. ⌜ now r ≡ facetOf (now (corners .entry)) (now (begins .entry)) f ⌝ }
+    ensures { λ r. ⌜ Lies 2 (corners .entry) (begin (now (begins .entry)) f) (facetOf (now (corners .entry)) (now (begins .entry)) f) r ⌝ }
 {
     let begin = wide(begins[f]);
     let end = wide(begins[f + 1]);
@@ -122,7 +123,9 @@ pub fn part<'a>(corners: &'a [u16], begins: &[u16], f: usize) -> &'a [u16]
 
 // The facet look-up: the part of the lent run that has the corners of facet f, or the empty part at its beginning.
 pub fn facet<'a>(points: &[i32], corners: &'a [u16], begins: &[u16], f: usize) -> &'a [u16]
-    ensures { λ r. ⌜ now r ≡ lookUp (now (points .entry)) (now (corners .entry)) (now (begins .entry)) f ⌝ }
+    ensures { λ r. ⌜ Lies 2 (corners .entry)
+        (lookUpAt (now (points .entry)) (now (corners .entry)) (now (begins .entry)) f)
+        (lookUp (now (points .entry)) (now (corners .entry)) (now (begins .entry)) f) r ⌝ }
 {
     if size(points, corners, begins) {
         return &corners[0..0];

@@ -1,4 +1,4 @@
--- Whole numbers, and the searches, counts and tables of them that the other crates cite.
+-- Whole numbers, and the searches, counts, tables and runs of them that the other crates cite.
 pub mod IntRing
 pub mod Solver
 pub mod Order
@@ -16,3 +16,4 @@ pub mod Flood
 pub mod Joined
 pub mod Over
 pub mod Begin
+pub mod Lies

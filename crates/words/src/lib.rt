@@ -4,9 +4,10 @@ ghost use mathlib.Core.Bool.{true, false};
 ghost use Prim.Native.Nat.{_<_};
 ghost use lib.Dec.{ltb};
 ghost use lib.ListN.{length};
+ghost use Rattle.whole.specs.Lies.{Lies};
 ghost use Rattle.words.specs.Runs.{among, sort};
 ghost use Rattle.words.specs.Words.{words, wordOf, isBlank};
-ghost use Rattle.words.specs.Scan.{pastOf, nextOf, nthOf};
+ghost use Rattle.words.specs.Scan.{pastOf, nextOf, nthOf, wordAt};
 
 // What parts the words of the programs' input.
 pub const BLANKS: [u8; 2] = [b' ', b'\n'];
@@ -67,9 +68,11 @@ fn nth(text: &[u8], set: &[u8], k: usize) -> Span
     at
 }
 
-// Word number k, counted from 0: the part of the text itself, empty where there are not so many words.
+// Word number k, counted from 0: the part of the text itself, the empty part at its end where there are not so many words.
 pub fn word<'a>(text: &'a [u8], set: &[u8], k: usize) -> &'a [u8]
-    ensures { λ r. ⌜ now r ≡ wordOf (among (now (set .entry))) (now (text .entry)) k ⌝ }
+    ensures { λ r. ⌜ Lies 1 (text .entry)
+        (wordAt (among (now (set .entry))) (now (text .entry)) k)
+        (wordOf (among (now (set .entry))) (now (text .entry)) k) r ⌝ }
 {
     let at = nth(text, set, k);
     let start = at.start;

@@ -17,13 +17,13 @@ returns : tie.Need-returns Inv-loop μ-loop
 returns c =
     let w = c .before in
     let l = w .before .before .before in
-    clear-hit (l .loop .inv) (l .before .before .before .pre) (omega arith) (w .before .part .ensures) (w .first-again .ensures) (c .if1 .taken)
+    clear-hit (l .loop .inv) (l .before .before .before .pre) (omega arith) (w .before .part .ensures .is) (w .first-again .ensures) (c .if1 .taken)
 
 loop-again : tie.Need-loop-again Inv-loop μ-loop
 loop-again c =
     let w = c .before in
     let l = w .before .before .before in
-    clear-more (l .loop .inv) (l .before .before .before .pre) (omega arith) (w .before .part .ensures) (w .first-again .ensures) (c .if1 .left)
+    clear-more (l .loop .inv) (l .before .before .before .pre) (omega arith) (w .before .part .ensures .is) (w .first-again .ensures) (c .if1 .left)
 
 pub repeat-spec : {M : Type 1} → statement M
 repeat-spec =

@@ -23,7 +23,7 @@ part-requires : tie.Need-part-requires Inv-loop2 μ-loop2 Inv-loop μ-loop
 part-requires c κs = let (tables, facet-in) = c .before .before .pre in (tables .measured .sound .laid, facet-in)
 
 loop-holds : tie.Need-loop-holds Inv-loop2 μ-loop2 Inv-loop μ-loop
-loop-holds c = let (tables, facet-in) = c .before .before .before .pre in nearing-0 tables facet-in (c .part .ensures)
+loop-holds c = let (tables, facet-in) = c .before .before .before .pre in nearing-0 tables facet-in (c .part .ensures .is)
 
 head-at-requires : tie.Need-head-at-requires Inv-loop2 μ-loop2 Inv-loop μ-loop
 head-at-requires c κs =

@@ -25,7 +25,7 @@ loop-holds : tie.Need-loop-holds Inv-loop μ-loop
 loop-holds c =
     let p = c .before .before in
     let (tables, facet-in) = p .before .before .before .pre in
-    folding-0 tables facet-in (p .part .ensures) (c .wide .ensures .is)
+    folding-0 tables facet-in (p .part .ensures .is) (c .wide .ensures .is)
 
 is-reflex-requires : tie.Need-is-reflex-requires Inv-loop μ-loop
 is-reflex-requires c κs =

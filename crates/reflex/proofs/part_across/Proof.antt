@@ -22,7 +22,7 @@ returns c =
     let h = c .before in
     let a = h .before in
     let (crossed, l) = a .before .before .before .pre in
-    rw (c .part .ensures, h .home-at .ensures, a .across-at .ensures, facet-across crossed l)
+    rw (c .part .ensures .is, h .home-at .ensures, a .across-at .ensures, facet-across crossed l)
 
 pub part-across-spec : {M : Type 1} → statement M
 part-across-spec =

@@ -23,7 +23,7 @@ returns c =
     let l = r .before .before .loop in
     let (tables, free) = l .inv in
     free-hit free (omega arith) (r .first-reflex .ensures)
-    (rw (t .part .ensures, part-length (tables .measured .sound .laid) {f = l .f} (omega arith)) at (c .if1 .taken))
+    (rw (t .part .ensures .is, part-length (tables .measured .sound .laid) {f = l .f} (omega arith)) at (c .if1 .taken))
 
 loop-again : tie.Need-loop-again Inv-loop μ-loop
 loop-again c =
@@ -33,7 +33,7 @@ loop-again c =
     let (tables, free) = l .inv in (
       tables,
       free-more free (omega arith) (r .first-reflex .ensures)
-          (rw (t .part .ensures, part-length (tables .measured .sound .laid) {f = l .f} (omega arith)) at (c .if1 .left)),
+          (rw (t .part .ensures .is, part-length (tables .measured .sound .laid) {f = l .f} (omega arith)) at (c .if1 .left)),
     )
 
 pub reflex-spec : {M : Type 1} → statement M

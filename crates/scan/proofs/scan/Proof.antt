@@ -19,21 +19,21 @@ abbrev μ-loop : tie.MeasureT-loop
 first-outside-requires : tie.Need-first-outside-requires Inv-loop μ-loop
 first-outside-requires c κs =
     let (measured, free) = c .before .before .loop .inv in
-    (rw (c .part .ensures) (facet measured (omega arith)), measured .sound .named .few)
+    (rw (c .part .ensures .is) (facet measured (omega arith)), measured .sound .named .few)
 
 returns : tie.Need-returns Inv-loop μ-loop
 returns c =
     let t = c .before in
     let p = t .before in
     let (measured, free) = p .before .before .loop .inv in
-    free-hit free (omega arith) (rw (p .part .ensures) at (t .first-outside .ensures)) (c .if1 .taken)
+    free-hit free (omega arith) (rw (p .part .ensures .is) at (t .first-outside .ensures)) (c .if1 .taken)
 
 loop-again : tie.Need-loop-again Inv-loop μ-loop
 loop-again c =
     let t = c .before in
     let p = t .before in
     let (measured, free) = p .before .before .loop .inv in
-    (measured, free-more free (omega arith) (rw (p .part .ensures) at (t .first-outside .ensures)) (c .if1 .left))
+    (measured, free-more free (omega arith) (rw (p .part .ensures .is) at (t .first-outside .ensures)) (c .if1 .left))
 
 pub scan-spec : {M : Type 1} → statement M
 scan-spec =

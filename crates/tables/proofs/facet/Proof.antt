@@ -1,14 +1,14 @@
 -- `tables::facet` meets its contract. Assumes nothing.
 use borrow.Author.Needs.{needs}
 use borrow.Author.Tests.{lt-ltb, le-ltb}
-use mathlib.Core.Path.{sym, _∙_}
+use mathlib.Core.Path.{refl, sym, _∙_}
 use native.Mathlib.Omega.{arith}
 use Rattle.tables.specs.Size.{sized}
 use Rattle.tables.proofs.facet.Statement.{statement}
 use Rattle.tables.proofs.facet.Tie as tie
 
 returns : tie.Need-returns
-returns c = rw (← (c .before .before .size .ensures), c .before .if1 .taken)
+returns c = rw (← (c .before .before .size .ensures), c .before .if1 .taken) (record { at = refl; is = refl })
 
 sub-if2 : tie.Need-sub-if2
 sub-if2 c =
@@ -30,7 +30,7 @@ returns-3 : tie.Need-returns-3
 returns-3 c =
     let d = c .before in
     let b = d .before in
-    rw (← (b .before .size .ensures), b .if1 .left, le-ltb _ _ (d .if2 .left))
+    rw (← (b .before .size .ensures), b .if1 .left, le-ltb _ _ (d .if2 .left)) (record { at = refl; is = refl })
 
 pub facet-spec : {M : Type 1} → statement M
 facet-spec =

@@ -28,7 +28,10 @@ part-result-end c =
     omega (arith, end-in-run laid below, c .wide2 .ensures .is)
 
 returns : tie.Need-returns
-returns c = rw (c .before .wide2 .ensures .is, c .before .before .before .wide .ensures .is)
+returns c =
+    let end = c .before .wide2 .ensures .is in
+    let begin = c .before .before .before .wide .ensures .is in
+    record { at = rw begin; is = rw (end, begin) }
 
 pub part-spec : {M : Type 1} → statement M
 part-spec =

@@ -23,7 +23,7 @@ module _ (c : tie.After-part Inv-loop μ-loop) where
   start = l .before .before .before .before
 
   here : WritesFacet (start .args .corners .now) (start .args .begins .now) (c .part .result .now) (l .loop .at) (l .loop .f)
-  here = writes-facet (l .loop .inv) (c .before .loop-test .taken) (c .part .ensures)
+  here = writes-facet (l .loop .inv) (c .before .loop-test .taken) (c .part .ensures .is)
 
 abbrev turned : tie.After-slice-known2 Inv-loop μ-loop → tie.After-part Inv-loop μ-loop
 turned c = c .before .before .before .before
@@ -31,7 +31,7 @@ turned c = c .before .before .before .before
 loop-again : tie.Need-loop-again Inv-loop μ-loop
 loop-again c =
     let t = turned c in
-    facet-more (l t .loop .inv) (t .before .loop-test .taken) (t .part .ensures) (c .before .before .put-facet .ensures)
+    facet-more (l t .loop .inv) (t .before .loop-test .taken) (t .part .ensures .is) (c .before .before .put-facet .ensures)
 
 pub put-facets-spec : {M : Type 1} → statement M
 put-facets-spec =

@@ -17,7 +17,7 @@ returns : tie.Need-returns Inv-loop μ-loop
 returns c =
     let p = c .before .before in
     let i = p .before .before .loop .inv in
-    clear-hit (i .clear) (i .measured .sound .laid) (omega arith) (p .part .ensures) (c .before .first-turn .ensures) (c .if1 .taken)
+    clear-hit (i .clear) (i .measured .sound .laid) (omega arith) (p .part .ensures .is) (c .before .first-turn .ensures) (c .if1 .taken)
 
 loop-again : tie.Need-loop-again Inv-loop μ-loop
 loop-again c =
@@ -25,7 +25,7 @@ loop-again c =
     let i = p .before .before .loop .inv in
     record {
       measured = i .measured;
-      clear = clear-more (i .clear) (i .measured .sound .laid) (omega arith) (p .part .ensures) (c .before .first-turn .ensures) (c .if1 .left);
+      clear = clear-more (i .clear) (i .measured .sound .laid) (omega arith) (p .part .ensures .is) (c .before .first-turn .ensures) (c .if1 .left);
     }
 
 pub turn-spec : {M : Type 1} → statement M
@@ -37,7 +37,7 @@ turn-spec =
     (λ c. omega (arith, c .before .before .pre .sound .laid .some))
     (λ c. record { measured = c .before .before .pre; clear = clear-0 })
     (λ c κs. (c .before .loop .inv .measured .sound .laid, omega arith))
-    (λ c κs. rw (c .part .ensures) (facet (c .before .before .loop .inv .measured) (omega arith)))
+    (λ c κs. rw (c .part .ensures .is) (facet (c .before .before .loop .inv .measured) (omega arith)))
     returns
     (λ c. omega arith)
     (λ c. omega arith)
