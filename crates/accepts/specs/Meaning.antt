@@ -9,7 +9,6 @@ use Rattle.points.specs.Points.{vertices}
 use Rattle.tables.specs.Tables.{facets, edges}
 use Rattle.answers.specs.Answer.{accepted, answerOf, answer-number}
 use Rattle.answers.specs.Order.{firstOf, Passes, passes-none, passes-beginning, none-append, first-after, none-for}
-use Rattle.answers.specs.declared.Answer.{Answer}
 use Rattle.limits.specs.InOrder.{InOrder, limitRules, none-limits}
 use Rattle.pair.specs.Pair.{pair-none}
 use Rattle.bridge.specs.Surface.{tablesOf, sized-tables}
@@ -84,10 +83,6 @@ module _ (points : List ℤ) (corners begins : List ℕ) where
   -- the answer is then V, E, F
   pub accepted-answer : judged points corners begins .number ≡ 0 → judged points corners begins ≡ accepted (vertices points) (edges corners) (facets begins)
   accepted-answer e = faultless-accepted (faultless e)
-
-  -- no two outcomes satisfy the judge's promise
-  pub one-outcome : {r s : Answer} → r ≡ judged points corners begins → s ≡ judged points corners begins → r ≡ s
-  one-outcome a b = a ∙ sym b
 
   -- ---- what later proofs take from acceptance
 

@@ -7,7 +7,6 @@ use Prim.Native.Nat.{ℕ}
 use lib.IntN.{ℤ}
 use lib.ListN.{length}
 use Rattle.whole.specs.First.{Lowest}
-use Rattle.outline.specs.declared.Verdict.{Verdict}
 use Rattle.once_round.specs.Words.{count, few, outOfRange, notLeft, far, wound, Counted, Limits, LocallyConvex, AllLeft}
 use Rattle.outline.specs.Outline.{verdict, judgedTurns, judgedOutline}
 use Rattle.once_round.specs.Limits.{counted, not-few}
@@ -15,10 +14,6 @@ use Rattle.left_of_all.specs.InOrder.{differ, refused, afterFew, afterLe
 use Rattle.left_of_all.specs.InOrder.{past-left, past-wound, not-after-few, not-turns, not-after-left}
 use Rattle.once_round.specs.Second.{AtMostOne, One, Second, at-most-one, no-second, the-second}
 use Rattle.once_round.specs.Round.{theorem-5, one-far}
-
--- no two outcomes satisfy the judge's promise
-pub one-outcome : (points : List ℤ) (r s : Verdict) → r ≡ judgedOutline points → s ≡ judgedOutline points → r ≡ s
-one-outcome points r s e f = e ∙ sym f
 
 module _ (points : List ℤ) where
   -- ---- the refusals

@@ -1,0 +1,2 @@
+-- No two outcomes satisfy an entry's promise.
+pub mod Entries

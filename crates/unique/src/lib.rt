@@ -1,0 +1,1 @@
+// No two outcomes satisfy an entry's promise: laws alone, in specs/.
