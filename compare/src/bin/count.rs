@@ -58,6 +58,7 @@ fn call(task: &str, size: usize) -> Option<(u16, [i64; 6])> {
     let lent = Lent::from(&t);
     let number = match task {
         "judge" | "wound" | "shut" => library.judge(lent, &mut out),
+        "look-up" => library.look_up(lent, t.begins.len() as u32 - 2, &mut out),
         "walk" => {
             let way = Way {
                 start: 0,
