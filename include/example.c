@@ -20,6 +20,10 @@ int main(int argc, char **argv)
         return 2;
     }
     size_t length = fread(tape, 1, COUNT(tape), file);
+    if (ferror(file)) {
+        fputs("example: the file can't be read\n", stderr);
+        return 2;
+    }
     fclose(file);
     int64_t out[3];
     uint16_t number = solid_read_tape(tape, length, points, COUNT(points), corners, COUNT(corners), begins, COUNT(begins), out, 3);
@@ -28,5 +32,9 @@ int main(int argc, char **argv)
         number = solid_judge(points, 3 * (size_t)out[0], corners, (size_t)out[2], begins, (size_t)out[1] + 1, out, 3);
     }
     printf("%" PRIu16 " %" PRId64 " %" PRId64 " %" PRId64 "\n", number, out[0], out[1], out[2]);
+    if (fflush(stdout)) {
+        fputs("example: the answer can't be written\n", stderr);
+        return 2;
+    }
     return 0;
 }

@@ -7,12 +7,13 @@
  * - It is aligned as C aligns its entries: int64_t to 8 bytes, int32_t to 4, uint16_t to 2.
  * - A slice lent for writing overlaps no other slice of the call, whether that one is written or only read. Slices that are only read
  *   may overlap each other.
+ * - Until the call returns, nothing else writes to any of its slices, nor reads one that is lent for writing.
  * - NULL goes with length 0, and with no other length; tools/lent.c tries it at each slice.
  * - The stack has 128 KiB left: the judge's and the walk's tables are 57 KiB of it.
  * Where one of these doesn't hold, the proofs say nothing of the call: it may answer wrongly, alter any byte that it can reach, or end
  * the program. (Tape and points in one buffer, for one, reads zeros.)
  *
- * The functions keep nothing between calls and share nothing, so threads may call them at the same time. */
+ * The functions keep nothing between calls and share nothing of their own, so threads may call them at the same time on slices of which this holds. */
 #ifndef SOLID_H
 #define SOLID_H
 

@@ -34,5 +34,9 @@ ssize_t write(int fd, const void *buf, size_t len) {
         if (len > 1) len = 1;
     }
     if (fd == 1 && plays("write-fails")) return errno = EIO, -1;
+    if (fd == 1 && plays("write-fails-later")) {
+        if (calls++ > 0) return errno = EIO, -1;
+        if (len > 5) len = 5;
+    }
     return real(fd, buf, len);
 }

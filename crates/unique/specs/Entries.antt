@@ -4,7 +4,9 @@
 use mathlib.Core.Path.{_≡_, sym, _∙_}
 use contract.Lifetimes.{Lfts}
 use denote.Ref.{now, ptr}
+use Rattle.stages.specs.HandsOut.{one-outcome}
 use Rattle.judge.proofs.judge.Reads as judge
+use Rattle.judge.proofs.judge_with_index.Reads as with-index
 use Rattle.walk.proofs.walk.Reads as walk
 use Rattle.tables.proofs.facet.Reads as facet
 use Rattle.outline.proofs.judge_outline.Reads as outline
@@ -87,3 +89,9 @@ solid-read-one κs a r s e f (p, (t, (u, (v, w)))) (p′, (t′, (u′, (v′, w
 pub solid-write-one : (κs : Lfts 5) (a : _) (r s : _) (e f : _) → solid-write.Post κs a r e → solid-write.Post κs a s f
     → (r ≡ s) × ((now (e .1 .1 .1 .0) ≡ now (f .1 .1 .1 .0)) × (now (e .1 .1 .1 .1 .0) ≡ now (f .1 .1 .1 .1 .0)))
 solid-write-one κs a r s e f (p, (t, u)) (p′, (t′, u′)) = (one p p′, (one t t′, one u u′))
+
+-- ---- the judge as the walk calls it: and the two tables of the index
+
+pub with-index-one : (κs : Lfts 5) (a : _) (r s : _) (e f : _) → with-index.Post κs a r e → with-index.Post κs a s f
+    → (r ≡ s) × (now (e .1 .1 .1 .0) ≡ now (f .1 .1 .1 .0)) × (now (e .1 .1 .1 .1 .0) ≡ now (f .1 .1 .1 .1 .0))
+with-index-one κs a r s e f p q = one-outcome _ _ (λ r. r .number) p q
