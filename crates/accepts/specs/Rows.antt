@@ -7,7 +7,7 @@ use Prim.Native.Nat.{ℕ, _≤_}
 use lib.IntN.{ℤ}
 use Rattle.answers.specs.Answer.{answerOf}
 use Rattle.tables.specs.declared.Found.the-variants.{At}
-use Rattle.answers.specs.Order.{Given, given, given-is, firstOf, placeFor, above, ascending, lowest-wins}
+use Rattle.answers.specs.Order.{Given, given, given-is, firstOf, placeFor, ascending, lowest-wins}
 use Rattle.answers.specs.declared.Answer.{Answer}
 use Rattle.answers.specs.declared.Fault.{Fault}
 use Rattle.answers.specs.declared.Fault.the-variants.{Breaks}
@@ -30,7 +30,7 @@ module _ (points : List ℤ) (corners begins : List ℕ) where
 
   -- "The lowest number that applies anywhere in the tables wins"
   pub rules-ascend : ascending (rules points corners begins) ≡ true
-  unfolding ascending above
+  unfolding ascending
   rules-ascend = refl
 
   pub lowest-number : {number a b : ℕ} → firstOf (rules points corners begins) ≡ Breaks number a b

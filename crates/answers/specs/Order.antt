@@ -145,41 +145,49 @@ module _ (qs : List Rule) where
       go (Breaks number a b) s = sym (first-append rs s) ∙ e
       go None s = refl
 
--- ---- numbers above 0
-
-unfoldable pub numbered : List Rule → Bool
-numbered [] = true
-numbered (r ∷ rs) = cond (ltb 0 (r .number)) (numbered rs) false
-
--- so the number 0 says that none applies
-pub number-0 : (rs : List Rule) → numbered rs ≡ true → faultNumber (firstOf rs) ≡ 0 → Passes rs
-unfolding firstOf numbered
-number-0 [] n e = refl
-number-0 (r ∷ rs) n e = go (number-0 rs) (placeOf (r .search)) (ltb 0 (r .number)) refl n e
-  where
-    go : (numbered rs ≡ true → faultNumber (firstOf rs) ≡ 0 → Passes rs) → (p : Found) (t : Bool) → ltb 0 (r .number) ≡ t
-        → cond t (numbered rs) false ≡ true → faultNumber (orElse (r .number) p (firstOf rs)) ≡ 0 → orElse (r .number) p (firstOf rs) ≡ None
-    go h p false s n e = absurd (true≢false (sym n))
-    go h (At a b) true s n e = absurd (omega (arith, ltb-true 0 (r .number) s))
-    go h Nothing true s n e = h n e
-
--- ---- the lowest number wins
-
--- every number of the list is above n
-unfoldable pub above : ℕ → List Rule → Bool
-above n [] = true
-above n (r ∷ rs) = cond (ltb n (r .number)) (above n rs) false
-
-unfoldable pub ascending : List Rule → Bool
-ascending [] = true
-ascending (r ∷ rs) = cond (above (r .number) rs) (ascending rs) false
+-- ---- the numbers of a list
 
 pub split : (s t : Bool) → cond s t false ≡ true → (s ≡ true) × (t ≡ true)
 split true t e = (refl, e)
 split false t e = absurd (true≢false (sym e))
 
+-- each of them passes the test ..
+abbrev pub each : (ℕ → Bool) → List Rule → Bool
+each test [] = true
+each test (r ∷ rs) = cond (test (r .number)) (each test rs) false
+
+-- .. and so does the fault's
+pub fault-passes : (test : ℕ → Bool) (rs : List Rule) → each test rs ≡ true → {number a b : ℕ} → firstOf rs ≡ Breaks number a b → test number ≡ true
+unfolding firstOf
+fault-passes test [] s e = absurd (some-fault (sym e))
+fault-passes test (r ∷ rs) s {number} {a} {b} e =
+    let (h, t) = split (test (r .number)) (each test rs) s in
+    go h (λ l. fault-passes test rs t l) (placeOf (r .search)) e
+  where
+    go : test (r .number) ≡ true → (firstOf rs ≡ Breaks number a b → test number ≡ true) → (p : Found)
+        → orElse (r .number) p (firstOf rs) ≡ Breaks number a b → test number ≡ true
+    go h k (At c d) e = let z : r .number ≡ number = cc in rw z at h
+    go h k Nothing e = k e
+
+-- each number is above n
+abbrev pub above : ℕ → List Rule → Bool
+above n = each (ltb n)
+
+-- where each is above 0, the number 0 says that none applies
+pub number-0 : (rs : List Rule) → above 0 rs ≡ true → faultNumber (firstOf rs) ≡ 0 → Passes rs
+number-0 rs n e = go (firstOf rs) refl e
+  where
+    go : (x : Fault) → firstOf rs ≡ x → faultNumber x ≡ 0 → x ≡ None
+    go (Breaks number a b) s e = absurd (omega (arith, ltb-true 0 number (fault-passes (ltb 0) rs n s)))
+    go None s e = refl
+
+-- ---- the lowest number wins
+
+unfoldable pub ascending : List Rule → Bool
+ascending [] = true
+ascending (r ∷ rs) = cond (above (r .number) rs) (ascending rs) false
+
 pub above-each : (n : ℕ) (rs : List Rule) → above n rs ≡ true → (k : ℕ) {c d : ℕ} → placeFor rs k ≡ At c d → n < k
-unfolding above
 above-each n [] e k p = absurd (differ (sym p))
 above-each n (r ∷ rs) e k {c} {d} p =
     let (h, t) = split (ltb n (r .number)) (above n rs) e in

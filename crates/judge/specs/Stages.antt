@@ -1,13 +1,12 @@
 -- What is known of tables that pass the rules up to TURN, or up to REFLEX. Assumes nothing.
 use mathlib.Core.Path.{_≡_, refl}
 use mathlib.Core.List.{List}
-use mathlib.Core.Bool.{true}
 use Prim.Native.Nat.{ℕ}
 use lib.IntN.{ℤ}
 use Rattle.tables.specs.Search.{placeOf}
 use Rattle.tables.specs.declared.Found.the-variants.{Nothing}
 use Rattle.answers.specs.Answer.{faultNumber}
-use Rattle.answers.specs.Order.{Passes, placeFor, none-for, firstOf, numbered, number-0}
+use Rattle.answers.specs.Order.{Passes, placeFor, none-for, firstOf, number-0}
 use Rattle.bridge.specs.Surface.{tablesOf}
 use Rattle.bridge.specs.Closed.{is-closed}
 use Rattle.reflex.specs.Rules.{reflex}
@@ -43,11 +42,7 @@ module _ (points : List ℤ) (corners begins : List ℕ) (P : Passes (rulesToTur
         reflex = no-reflex points (m .sound .laid) (paired-after points corners begins P) e;
       }
 
-pub all-numbered : (points : List ℤ) (corners begins : List ℕ) → numbered (rules points corners begins) ≡ true
-unfolding numbered
-all-numbered points corners begins = refl
-
 -- the number 0 says that no rule is broken
 pub none-broken : (points : List ℤ) (corners begins : List ℕ) → faultNumber (firstOf (rules points corners begins)) ≡ 0
     → Passes (rules points corners begins)
-none-broken points corners begins e = number-0 (rules points corners begins) (all-numbered points corners begins) e
+none-broken points corners begins e = number-0 (rules points corners begins) refl e

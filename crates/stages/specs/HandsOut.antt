@@ -1,14 +1,11 @@
 -- What the two tables of the index hold after each answer, by its number. Assumes nothing.
 use mathlib.Core.Path.{_≡_, sym, ap, _∙_}
-use mathlib.Core.Bool.{Bool, true, false, cond, not, _&&_, and-eq-true-iff, Bool·not-not}
-use mathlib.Core.List.{List, [], _∷_}
+use mathlib.Core.Bool.{Bool, true, false, cond, not, _&&_, Bool·not-not}
+use mathlib.Core.List.{List}
 use Prim.Native.Nat.{ℕ}
 use lib.Dec.{leb}
-use Rattle.tables.specs.Search.{placeOf}
-use Rattle.tables.specs.declared.Found.{Found}
-use Rattle.tables.specs.declared.Found.the-variants.{At, Nothing}
-use Rattle.answers.specs.Answer.{faultNumber, some-fault}
-use Rattle.answers.specs.Order.{Rule, firstOf, orElse}
+use Rattle.answers.specs.Answer.{faultNumber}
+use Rattle.answers.specs.Order.{Rule, firstOf, each, fault-passes}
 use Rattle.answers.specs.declared.Fault.{Fault}
 use Rattle.answers.specs.declared.Fault.the-variants.{Breaks, None}
 use Rattle.index.specs.Entries.{Fresh}
@@ -34,26 +31,6 @@ module _ (corners begins : List ℕ) {edges edges′ : List (List ℕ)} {heads h
   one-outcome number {answer} (e, h) (f, k) =
       let (rows, links) = one-hand-out (isEarly (number answer)) (rw e at h) (rw f at k) in
       (e ∙ sym f, rows, links)
-
--- ---- the numbers of a list of rules
-
--- each of them passes the test ..
-abbrev pub each : (ℕ → Bool) → List Rule → Bool
-each test [] = true
-each test (r ∷ rs) = test (r .number) && each test rs
-
--- .. and so does the fault's
-pub fault-passes : (test : ℕ → Bool) (rs : List Rule) → each test rs ≡ true → {number a b : ℕ} → firstOf rs ≡ Breaks number a b → test number ≡ true
-unfolding firstOf
-fault-passes test [] s e = absurd (some-fault (sym e))
-fault-passes test (r ∷ rs) s {number} {a} {b} e =
-    let (h, t) = and-eq-true-iff (test (r .number)) (each test rs) .0 s in
-    go h (λ l. fault-passes test rs t l) (placeOf (r .search)) e
-  where
-    go : test (r .number) ≡ true → (firstOf rs ≡ Breaks number a b → test number ≡ true) → (p : Found)
-        → orElse (r .number) p (firstOf rs) ≡ Breaks number a b → test number ≡ true
-    go h k (At c d) e = let z : r .number ≡ number = cc in rw z at h
-    go h k Nothing e = k e
 
 -- rules from 6 on hand out the index, broken or not
 pub hands-index : {corners begins : List ℕ} {edges : List (List ℕ)} {heads : List ℕ} (rs : List Rule) → each (λ n. not (isEarly n)) rs ≡ true

@@ -13,7 +13,7 @@ use Rattle.tables.specs.Tables.{mostVertices, mostFacets, mostCorners, facets}
 use Rattle.tables.specs.Size.{sized}
 use Rattle.limits.specs.Rules.{in-limits}
 use Rattle.answers.specs.Answer.{answerOf, refused, ofLength, faultNumber, some-fault}
-use Rattle.answers.specs.Order.{firstOf, numbered, number-0}
+use Rattle.answers.specs.Order.{firstOf, number-0}
 use Rattle.answers.specs.declared.Fault.the-variants.{Breaks}
 use Rattle.answers.specs.declared.Answer.{Answer}
 use Rattle.limits.specs.InOrder.{limitRules, InOrder, none-limits, laid}
@@ -50,7 +50,6 @@ module _ {points : List ℤ} {corners begins : List ℕ} (o : InOrder points cor
 -- a fault's number is not 0
 never-0 : (points : List ℤ) (corners begins : List ℕ) {number first second : ℕ} → firstOf (limitRules points corners begins) ≡ Breaks number first second
     → number ≡ 0 → ⊥
-unfolding numbered
 never-0 points corners begins h z = some-fault (sym h ∙ number-0 (limitRules points corners begins) refl (ap faultNumber h ∙ z))
 
 module _ (points : List ℤ) (corners begins buffer : List ℕ) where

@@ -2,10 +2,10 @@
 use borrow.Author.Needs.{needs}
 use mathlib.Core.Path.{refl, sym, _∙_}
 use mathlib.Core.List.{List}
-use Rattle.answers.specs.Order.{Rule, Passes, first-append, none-append}
+use Rattle.answers.specs.Order.{Rule, Passes, first-append, none-append, fault-passes}
 use Rattle.limits.specs.InOrder.{limitRules, limits-none}
 use Rattle.stages.specs.Known.{measured}
-use Rattle.stages.specs.HandsOut.{isEarly, fault-passes}
+use Rattle.stages.specs.HandsOut.{isEarly}
 use Rattle.stages.proofs.up_to_turn.Statement.{statement}
 use Rattle.stages.proofs.up_to_turn.Tie as tie
 
