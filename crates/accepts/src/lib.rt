@@ -1,1 +1,2 @@
 // What acceptance means, and each row of the sheet's table: laws alone, in specs/.
+#![tactic(auto)]

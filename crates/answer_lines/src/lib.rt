@@ -1,4 +1,6 @@
 // The line of an answer, and of a walk.
+#![tactic(auto)]
+
 ghost use Rattle.std.specs.Prelude.{◌≡◌};
 ghost use Rattle.lines.specs.Line.{line_in};
 ghost use Rattle.answer_lines.specs.Lines.{places_of, moves_of, Prints};

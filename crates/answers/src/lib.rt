@@ -1,4 +1,6 @@
 // The judge's record, which walk, writer and programs share: one maker for each kind of answer.
+#![tactic(auto)]
+
 ghost use Rattle.std.specs.Prelude.{◌≡◌, ◌≤◌, length};
 ghost use Rattle.answers.specs.declared.Fault.TheVariants.{None};
 ghost use Rattle.answers.specs.Answer.{accepted, fault, refused, passed, of_length, at_offset, answer_of};

@@ -1,4 +1,6 @@
 // Number 8, APART: every facet is reached from facet 0 across edges.
+#![tactic(auto)]
+
 ghost use Rattle.std.specs.Prelude.{◌≡◌};
 ghost use Rattle.whole.specs.Flood.{Unmarked, Pushing, Push};
 ghost use Rattle.tables.specs.Tables.{most_facets, end};

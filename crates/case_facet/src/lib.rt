@@ -1,4 +1,5 @@
 // The stored cases of the facet look-up.
+#![tactic(auto)]
 
 // F: after the tables the facet. Prints where its part lies, then the part that the look-up hands back. Where the text goes on.
 pub fn facet_case(

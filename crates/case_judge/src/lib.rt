@@ -1,4 +1,5 @@
 // The stored cases of the judge and of the outline judge.
+#![tactic(auto)]
 
 // Room for the longest outline.
 const OUTLINE: usize = 8200;

@@ -1,4 +1,5 @@
 // The stored cases of the lines that the two programs print.
+#![tactic(auto)]
 
 // Room for the walk program's longest input.
 const INPUT: usize = 400;

@@ -1,4 +1,6 @@
 // The lists of the stored cases' text: how many numbers, then each.
+#![tactic(auto)]
+
 ghost use Rattle.whole.specs.Begin.{Begin};
 
 // Stores a list at the beginning of a longer one; how many numbers it has.

@@ -1,4 +1,6 @@
 // The numbers of the stored cases' text: words of digits, some with a minus sign before them.
+#![tactic(auto)]
+
 ghost use Rattle.std.specs.Prelude.{◌≤◌};
 
 // A number with one digit more; 0 where it has more than 32 bits.

@@ -1,4 +1,5 @@
 // The stored cases of the tape's reader.
+#![tactic(auto)]
 
 // Room for the longest table.
 const TABLE: usize = 65600;

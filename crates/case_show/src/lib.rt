@@ -1,4 +1,6 @@
 // What the stored cases print: numbers, each with a blank before it.
+#![tactic(auto)]
+
 ghost use Rattle.std.specs.Prelude.{◌≤◌, length};
 
 // Room for a blank and a number of 64 bits.

@@ -1,4 +1,5 @@
 // The stored cases of the walk.
+#![tactic(auto)]
 
 // Room for the longest trail.
 const TRAIL: usize = 400;

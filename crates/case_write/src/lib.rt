@@ -1,4 +1,5 @@
 // The stored cases of the tape's writer.
+#![tactic(auto)]
 
 // Room for the longest buffer.
 const BUFFER: usize = 21600;

@@ -1,5 +1,6 @@
 // The stored cases, one by one. Each is a letter and what is lent, where a list is how many numbers, then each.
 // The answer is printed on one line, and after it what stands in the lent tables.
+#![tactic(auto)]
 
 // Room for the longest list of a solid's tables, and for the longest tape.
 const LIST: usize = 400;

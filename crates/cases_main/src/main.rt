@@ -1,4 +1,5 @@
 // Runs the stored cases: each line of standard input is one.
+#![tactic(auto)]
 
 // Room for their text.
 const TEXT: usize = 400000;

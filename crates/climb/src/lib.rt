@@ -1,4 +1,6 @@
 // One step of the walk, and steps until none rises.
+#![tactic(auto)]
+
 ghost use Rattle.std.specs.Prelude.{◌≡◌};
 ghost use Rattle.points.specs.Points.{Vertex, Ranged};
 ghost use Rattle.direction.specs.Direction.{Permitted};

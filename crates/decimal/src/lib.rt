@@ -1,4 +1,6 @@
 // A number in decimal, written.
+#![tactic(auto)]
+
 ghost use Rattle.std.specs.Prelude.{◌≡◌, ◌+◌, ◌≤◌, ◌<◌, nat_abs, length};
 ghost use Rattle.decimal.specs.Shown.{digit, digits, shown};
 ghost use Rattle.decimal.specs.Stored.{Stored};

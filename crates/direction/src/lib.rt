@@ -1,4 +1,6 @@
 // The walk's direction: three whole numbers, its named axes, its limits.
+#![tactic(auto)]
+
 ghost use Rattle.std.specs.Prelude.{◌≡◌};
 ghost use Rattle.direction.specs.Direction.{direction, axes, is_steep, is_wrong};
 

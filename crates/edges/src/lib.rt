@@ -1,4 +1,6 @@
 // The index of the edges: of each place of the run its facet, where its edge ends, the place across and the link to the place before in its chain.
+#![tactic(auto)]
+
 ghost use Rattle.std.specs.Prelude.{◌≡◌, ◌+◌, ◌-◌, ◌<◌, length};
 ghost use Rattle.tables.specs.Tables.{most_vertices, next_in};
 ghost use Rattle.tables.specs.Places.{In};

@@ -1,4 +1,6 @@
 // The functions for Rust and C: numbers and slices only.
+#![tactic(auto)]
+
 ghost use Rattle.std.specs.Prelude.{◌≡◌, length};
 ghost use Rattle.tables.specs.LookUp.{look_up, look_up_at};
 ghost use Rattle.judge.specs.Judge.{judged};

@@ -1,4 +1,6 @@
 // A facet's plane and edges, and number 9, BENT.
+#![tactic(auto)]
+
 ghost use Rattle.std.specs.Prelude.{◌≡◌, ◌<◌, length};
 ghost use Rattle.whole.specs.First.{first_below};
 ghost use Rattle.points.specs.Points.{Vertex};

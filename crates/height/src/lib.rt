@@ -1,4 +1,6 @@
 // Heights along a direction, and the higher of two spots.
+#![tactic(auto)]
+
 ghost use Rattle.std.specs.Prelude.{◌≡◌};
 ghost use Rattle.std.specs.Int.Signed.{lt_z};
 ghost use Rattle.whole.specs.Bounds.{◌within◌, Exact};

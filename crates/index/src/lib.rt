@@ -1,4 +1,6 @@
 // The two tables of the index of the edges, and the reading of each of their entries.
+#![tactic(auto)]
+
 ghost use Rattle.std.specs.Prelude.{◌≡◌, ◌<◌};
 ghost use Rattle.tables.specs.Tables.{most_vertices, most_corners};
 ghost use Rattle.index.specs.Entries.{home_at, end_at, across_at, back_at, head_at};

@@ -1,4 +1,6 @@
 // The walk program's input: the start and the direction that its words name.
+#![tactic(auto)]
+
 ghost use Rattle.std.specs.Prelude.{◌≡◌};
 ghost use Rattle.input.specs.Input.{split, read_at, vertex_of, start_in, limited, part_at, is_crowded, direction_in};
 

@@ -1,4 +1,6 @@
 // The judge of a solid.
+#![tactic(auto)]
+
 ghost use Rattle.std.specs.Prelude.{◌≡◌};
 ghost use Rattle.answers.specs.Answer.{fault_number};
 ghost use Rattle.answers.specs.Order.{first_of, rules_from, Passes};

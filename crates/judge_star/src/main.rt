@@ -1,4 +1,6 @@
 // The judging program, run on a solid that is a star.
+#![tactic(auto)]
+
 fn main() {
     run::judge_input();
 }

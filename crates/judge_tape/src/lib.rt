@@ -1,4 +1,6 @@
 // The judging program's work: a tape read, then judged.
+#![tactic(auto)]
+
 ghost use Rattle.std.specs.Prelude.{◌≡◌};
 ghost use Rattle.judge_tape.specs.Tape.{judged_tape};
 

@@ -1,4 +1,6 @@
 // LEFT: the turn at every point is left.
+#![tactic(auto)]
+
 ghost use Rattle.std.specs.Prelude.{◌≡◌, ◌<◌};
 ghost use Rattle.whole.specs.First.{first_below};
 ghost use Rattle.whole.specs.Bounds.{Exact};

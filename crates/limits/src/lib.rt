@@ -1,4 +1,6 @@
 // Numbers 2 and 3, RANGE and INDEX, and the check of 1 to 3 that judge and writer make first.
+#![tactic(auto)]
+
 ghost use Rattle.std.specs.Prelude.{◌≡◌, ◌<◌, length};
 ghost use Rattle.whole.specs.First.{first_below};
 ghost use Rattle.points.specs.Points.{Vertex};

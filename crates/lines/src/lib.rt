@@ -1,4 +1,6 @@
 // Lines of decimal numbers, written.
+#![tactic(auto)]
+
 ghost use Rattle.std.specs.Prelude.{◌≡◌, [], ◌∷◌, ◌+◌, ◌≤◌, length};
 ghost use Rattle.decimal.specs.Stored.{Stored};
 ghost use Rattle.lines.specs.Line.{after, line_of, room, line_in, number_of};

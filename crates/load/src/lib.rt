@@ -1,4 +1,6 @@
 // What every program on a tape begins with: the tape read into tables that are lent, and how much of each is the tape's.
+#![tactic(auto)]
+
 ghost use Rattle.std.specs.Prelude.{◌≡◌};
 ghost use Rattle.tape.specs.Reading.{read_tape};
 ghost use Rattle.reader.specs.Answer.{points_of, corners_of, begins_of};

@@ -1,4 +1,6 @@
 // What stands at an offset of a tape: a sound record, or the first rule that it breaks.
+#![tactic(auto)]
+
 ghost use Rattle.std.specs.Prelude.{◌≡◌, ◌+◌, ◌*◌, ◌≤◌, ◌<◌, length};
 ghost use Rattle.tables.specs.Tables.{most_corners, most_sides};
 ghost use Rattle.tape.specs.Reading.{point_at, facet_at, end_at, look_at};

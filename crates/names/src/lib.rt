@@ -1,4 +1,6 @@
 // Numbers 4 and 5, REPEAT and UNUSED: which vertices the facets name.
+#![tactic(auto)]
+
 ghost use Rattle.std.specs.Prelude.{◌≡◌, ◌≤◌, ◌<◌, length};
 ghost use Rattle.whole.specs.First.{first_below};
 ghost use Rattle.tables.specs.Tables.{most_vertices};

@@ -1,4 +1,6 @@
 // OUTSIDE at the neighbours of each facet's corners.
+#![tactic(auto)]
+
 ghost use Rattle.std.specs.Prelude.{◌≡◌, ◌<◌};
 ghost use Rattle.tables.specs.Tables.{facets};
 ghost use Rattle.near.specs.Near.{Neighboured, near_facet, near};

@@ -1,4 +1,6 @@
 // What the functions for Rust and C tell of an answer: its number is returned, and its other values are noted in `out`.
+#![tactic(auto)]
+
 ghost use Rattle.reading.specs.Answer.{answer_number};
 ghost use Rattle.notes.specs.Out.{NumberAndNotes, places, course, counts, place, extent};
 

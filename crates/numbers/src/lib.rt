@@ -1,4 +1,6 @@
 // Decimal numbers, read from words.
+#![tactic(auto)]
+
 ghost use Rattle.std.specs.Prelude.{◌≡◌, true, false, ◌+◌, ◌≤◌, ◌<◌, min};
 ghost use Rattle.words.specs.Runs.{each};
 ghost use Rattle.words.specs.Words.{word_of, is_blank};

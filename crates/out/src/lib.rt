@@ -1,4 +1,6 @@
 // The numbers that the functions for Rust and C leave in `out`.
+#![tactic(auto)]
+
 ghost use Rattle.std.specs.Prelude.{◌≡◌};
 ghost use Rattle.out.specs.Noted.{noted, three};
 

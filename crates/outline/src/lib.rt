@@ -1,4 +1,6 @@
 // The outline judge: the order of the refusals.
+#![tactic(auto)]
+
 ghost use Rattle.std.specs.Prelude.{◌≡◌};
 ghost use Rattle.points.specs.Range.{InRange};
 ghost use Rattle.once_round.specs.Words.{few};

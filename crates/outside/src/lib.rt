@@ -1,4 +1,6 @@
 // Number 12, OUTSIDE: by the look at the neighbours where that finds nothing, else by the scan.
+#![tactic(auto)]
+
 ghost use Rattle.std.specs.Prelude.{◌≡◌};
 ghost use Rattle.tables.specs.Search.{place_of};
 ghost use Rattle.scan.specs.Rules.{outside};

@@ -1,4 +1,6 @@
 // Number 6, PAIR, over the index of the edges.
+#![tactic(auto)]
+
 ghost use Rattle.std.specs.Prelude.{◌≡◌, ◌<◌, eqb, length};
 ghost use Rattle.whole.specs.First.{any_below};
 ghost use Rattle.whole.specs.Count.{bit};

@@ -1,4 +1,6 @@
 // The points of an outline, x and y in turn: a coordinate, the neighbours in the ring, and RANGE.
+#![tactic(auto)]
+
 ghost use Rattle.std.specs.Prelude.{◌≡◌, ◌<◌};
 ghost use Rattle.whole.specs.First.{first_below};
 ghost use Rattle.whole.specs.Bounds.{Exact};

@@ -1,4 +1,6 @@
 // The lent points: every coordinate is read here, with its limits, and the row from one point to another.
+#![tactic(auto)]
+
 ghost use Rattle.std.specs.Prelude.{◌≡◌, ◌||◌, ◌<◌, pos, length, get_or};
 ghost use Rattle.std.specs.Int.Signed.{lt_z};
 ghost use Rattle.whole.specs.Bounds.{Exact};

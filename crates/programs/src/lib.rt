@@ -1,4 +1,6 @@
 // What the two programs print of a tape.
+#![tactic(auto)]
+
 ghost use Rattle.std.specs.Prelude.{◌≡◌};
 ghost use Rattle.lines.specs.Line.{line_in};
 ghost use Rattle.answer_lines.specs.Lines.{Prints};

@@ -1,4 +1,6 @@
 // The tape's reader: one pass decides, and one fills the lent tables.
+#![tactic(auto)]
+
 ghost use Rattle.std.specs.Prelude.{◌≡◌};
 ghost use Rattle.tape.specs.Reading.{read_tape};
 ghost use Rattle.reader.specs.Answer.{reading, points_after, corners_after, begins_after};

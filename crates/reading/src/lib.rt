@@ -1,4 +1,6 @@
 // What every reader of tables shares: the room that must be lent to it, and its answer.
+#![tactic(auto)]
+
 ghost use Rattle.std.specs.Prelude.{◌≡◌};
 ghost use Rattle.reading.specs.Room.{no_room};
 

@@ -1,4 +1,6 @@
 // The tape's records, each written at the beginning of the unwritten rest of a buffer.
+#![tactic(auto)]
+
 ghost use Rattle.std.specs.Prelude.{◌≡◌, [], ◌∷◌, ◌+◌, ◌*◌, ◌≤◌, ◌<◌, length};
 ghost use Rattle.std.proofs.lemmas.List.Edits.{sets};
 ghost use Rattle.tables.specs.Tables.{most_sides};

@@ -1,4 +1,6 @@
 // Number 11, REFLEX: the fold at each edge.
+#![tactic(auto)]
+
 ghost use Rattle.std.specs.Prelude.{◌≡◌, ◌<◌, length};
 ghost use Rattle.whole.specs.First.{first_below};
 ghost use Rattle.points.specs.Points.{Vertex};

@@ -1,4 +1,6 @@
 // Number 7, RING: the facets at each vertex make one ring.
+#![tactic(auto)]
+
 ghost use Rattle.std.specs.Prelude.{◌≡◌, ◌≤◌, ◌<◌, length};
 ghost use Rattle.tables.specs.Tables.{most_vertices};
 ghost use Rattle.tables.specs.Search.{place_of};

@@ -1,4 +1,6 @@
 // Rows of three whole numbers: the determinant of three rows, and cross products.
+#![tactic(auto)]
+
 ghost use Rattle.std.specs.Prelude.{◌≡◌, ◌<◌};
 ghost use Rattle.whole.specs.Bounds.{Exact};
 ghost use Rattle.space.specs.Vectors.{◌·◌};

@@ -1,5 +1,7 @@
 // The two programs: each reads a tape and what else it needs, and prints one line. Where the world fails them (a file that can't be opened,
 // a read or a write that fails) they say so on standard error and print no line.
+#![tactic(auto)]
+
 ghost use Rattle.whole.specs.Begin.{Begin};
 
 // One byte more than the longest tape has: "the answer is already sure" (`judge_cut`, `walk-cut`, crate printed).

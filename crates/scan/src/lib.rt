@@ -1,4 +1,6 @@
 // OUTSIDE facet by facet, vertex by vertex.
+#![tactic(auto)]
+
 ghost use Rattle.std.specs.Prelude.{◌≡◌, ◌≤◌};
 ghost use Rattle.whole.specs.First.{first_below};
 ghost use Rattle.points.specs.Points.{vertices, Vertex};

@@ -1,4 +1,6 @@
 // Which side of a plane a point is on, and which side of an edge, by the determinant of three rows of three.
+#![tactic(auto)]
+
 ghost use Rattle.std.specs.Prelude.{◌≡◌};
 ghost use Rattle.space.specs.Rows.{BoundedRow, ExactRow, widest};
 ghost use Rattle.points.specs.Points.{Vertex};

@@ -1,4 +1,6 @@
 // Exact arithmetic behind every side test: the determinant of two rows of two, sums of three products, and numbers against 0.
+#![tactic(auto)]
+
 ghost use Rattle.std.specs.Prelude.{◌≡◌};
 ghost use Rattle.whole.specs.Bounds.{◌within◌, Exact};
 ghost use Rattle.space.specs.Vec.{vec};

@@ -1,4 +1,6 @@
 // Numbers 1 to 10 in their order: the judge's stage before REFLEX, which hands out the index of the edges.
+#![tactic(auto)]
+
 ghost use Rattle.std.specs.Prelude.{◌≡◌};
 ghost use Rattle.answers.specs.Answer.{fault_number};
 ghost use Rattle.answers.specs.Order.{first_of, rules_from};

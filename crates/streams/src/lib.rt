@@ -1,4 +1,6 @@
 // Reading and writing that go on where a signal interrupts them, and tell where they fail.
+#![tactic(auto)]
+
 ghost use Rattle.whole.specs.Begin.{Begin};
 
 // How often a call that a signal interrupts is made again: a function ends, and no process lives that long.

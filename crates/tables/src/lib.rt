@@ -1,4 +1,6 @@
 // The solid's three lent tables: their limits, number 1, SIZE, the facet look-up, and the first place at which a rule applies.
+#![tactic(auto)]
+
 ghost use Rattle.std.specs.Prelude.{◌≡◌, ◌+◌, ◌≤◌, ◌<◌, length};
 ghost use Rattle.whole.specs.First.{any_below};
 ghost use Rattle.whole.specs.Lies.{Lies};

@@ -1,4 +1,6 @@
 // The records of all points and of all facets of the lent tables, written over the beginning of a buffer.
+#![tactic(auto)]
+
 ghost use Rattle.std.specs.Prelude.{◌≡◌};
 ghost use Rattle.whole.specs.Over.{over};
 ghost use Rattle.tables_out.specs.Records.{all_points, PutsPoints, all_facets, PutsFacets};

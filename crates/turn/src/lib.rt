@@ -1,4 +1,6 @@
 // Number 10, TURN: a facet's outline turns left at every corner.
+#![tactic(auto)]
+
 ghost use Rattle.std.specs.Prelude.{◌≡◌, ◌<◌, length, get_or};
 ghost use Rattle.whole.specs.First.{first_below, any_below};
 ghost use Rattle.points.specs.Points.{Vertex};

@@ -1,1 +1,2 @@
 // No two outcomes satisfy an entry's promise: laws alone, in specs/.
+#![tactic(auto)]

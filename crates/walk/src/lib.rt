@@ -1,4 +1,6 @@
 // The walk to a highest vertex of a solid that it judges first.
+#![tactic(auto)]
+
 ghost use Rattle.std.specs.Prelude.{◌≡◌};
 ghost use Rattle.answers.specs.Answer.{refused};
 ghost use Rattle.walk.specs.Walk.{halted, arrived, walked, trail_after};

@@ -1,5 +1,7 @@
 // Walks on the solid of the tape in the file `solid.tape`, from the start and in the direction on standard input, and prints
 // one line: number, vertex, height, moves.
+#![tactic(auto)]
+
 fn main() {
     run::walk_input(b"solid.tape");
 }

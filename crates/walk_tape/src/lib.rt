@@ -1,4 +1,6 @@
 // The walk program's work: a tape read, then walked.
+#![tactic(auto)]
+
 ghost use Rattle.std.specs.Prelude.{◌≡◌};
 ghost use Rattle.walk_tape.specs.Tape.{walked_tape};
 

@@ -1,4 +1,6 @@
 // Words of a text: runs of bytes parted by a set of others.
+#![tactic(auto)]
+
 ghost use Rattle.std.specs.Prelude.{◌≡◌, true, false, ◌<◌, ltb, length};
 ghost use Rattle.whole.specs.Lies.{Lies};
 ghost use Rattle.words.specs.Runs.{among, sort};

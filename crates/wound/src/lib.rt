@@ -1,4 +1,6 @@
 // WOUND: no second point is far.
+#![tactic(auto)]
+
 ghost use Rattle.std.specs.Prelude.{◌≡◌};
 ghost use Rattle.whole.specs.First.{first_below};
 ghost use Rattle.space.specs.Plane.{vec};

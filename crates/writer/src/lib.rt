@@ -1,4 +1,6 @@
 // The tape's writer.
+#![tactic(auto)]
+
 ghost use Rattle.std.specs.Prelude.{◌≡◌, ◌≤◌, length};
 ghost use Rattle.limits.specs.InOrder.{InOrder};
 ghost use Rattle.whole.specs.Over.{over};
