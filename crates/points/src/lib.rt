@@ -19,6 +19,7 @@ pub fn exceeds(x: i32, least: i32, most: i32) -> bool
 }
 
 // Whether a coordinate is outside its limits.
+#[tactic(auto, unfolding(crate::specs::Range::is_out))]
 pub fn is_out(x: i32) -> bool
     ensures { result ≡ is_out x }
 {
@@ -41,6 +42,7 @@ pub fn entry(run: &[i32], k: usize) -> i64
 }
 
 // Coordinate k of vertex v: every reading of a point goes through here.
+#[tactic(auto, unfolding(crate::specs::Points::coord_of))]
 pub fn coord(points: &[i32], v: usize, k: usize) -> i32
     requires { Vertex points.now v × (k < 3) }
     ensures { result ≡ coord_of points.now v k }
@@ -57,6 +59,7 @@ pub fn wide_coord(points: &[i32], v: usize, k: usize) -> i64
 }
 
 // Coordinate k of the difference b-a.
+#[tactic(auto, using(crate::specs::Range::difference_is), unfolding(crate::specs::Points::difference_of))]
 fn difference(points: &[i32], a: u16, b: u16, k: usize) -> i64
     requires { Ranged points.now × Vertex points.now a × Vertex points.now b × (k < 3) }
     ensures { Exact longest (difference_of points.now a b k) result }
