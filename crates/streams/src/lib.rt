@@ -7,7 +7,7 @@ ghost use Rattle.whole.specs.Begin.{Begin};
 const TRIES: usize = 18446744073709551615;
 
 // How many bytes were read, and whether a read failed.
-#[derive(Drop)]
+#[derive(Clone, Copy)]
 pub struct Taken {
     pub len: usize,
     pub failed: bool,
