@@ -1,0 +1,25 @@
+use Rattle.std.proofs.Common.{◌≡◌, ℕ, ◌+◌, ◌-◌, ◌≤◌, List, ◌++◌, rules, length, take, drop, sym, ap, ◌∙◌, subst, le_refl, drop_at, length-take-le}
+use Rattle.std.proofs.lemmas.Slice.{take-put_mid_below}
+use Rattle.std.specs.Io.KnownBytes.{Consumes}
+use Rattle.std.proofs.KnownBytes.{Consumes-trans}
+use borrow.Rule.Slice.PartMut.{put_mid, post_of}
+use lib.Seq.{take-add, take-append-le}
+use Rattle.streams.proofs.read_all.Goals as goal
+
+-- what was read, and then the n bytes that were read after it
+take_both : (a k n : ℕ) (xs ys : List ℕ) → a ≤ length xs → n ≤ length ys → take a xs ++ take n ys ≡ take (a + n) (put_mid a k xs ys)
+take_both a k n xs ys within fits =
+    let after = post_of a k xs in
+    let all = put_mid a k xs ys in
+    let front : take a all ≡ take a xs = take-put_mid_below _ _ _ _ _ (le_refl _) within in
+    let back : take n (drop a all) ≡ take n ys = ap (take n) (drop_at (take a xs) (ys ++ after) a (length-take-le a xs within)) ∙ take-append-le n ys after fits in
+    sym (take-add a n all ∙ ap (λ l. l ++ take n (drop a all)) front ∙ ap (λ l. take a xs ++ l) back)
+
+pub loop-len-preserved : goal.loop-len-preserved
+loop-len-preserved g c = record {
+  same_length = search rules;
+  in_range = search rules;
+  taken =
+      let joined = take_both c.loop-len.len (length c.loop-len.buf - c.loop-len.len) c.in-Ok.more c.loop-len.buf c.read_on.new.buf c.loop-len.invariant.in_range c.in-Ok.ensures.bound.0 in
+      subst (Consumes _ _) joined (Consumes-trans _ _ _ _ _ c.loop-len.invariant.taken c.in-Ok.ensures.bytes.0);
+}
