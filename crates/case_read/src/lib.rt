@@ -39,17 +39,14 @@ pub fn read_case<W: Write>(
     let p = case_numbers::next_natural(text, &mut at, TABLE);
     let c = case_numbers::next_natural(text, &mut at, TABLE);
     let b = case_numbers::next_natural(text, &mut at, TABLE);
-    let mut points = [77i32; TABLE];
-    let mut corners = [77u16; TABLE];
-    let mut begins = [77u16; TABLE];
+    let mut point_room = [77i32; TABLE];
+    let points = &mut point_room[..p];
+    let mut corner_room = [77u16; TABLE];
+    let corners = &mut corner_room[..c];
+    let mut begin_room = [77u16; TABLE];
+    let begins = &mut begin_room[..b];
     let mut out = [0i64; 3];
-    let number = exports::solid_read_tape(
-        tape,
-        &mut points[..p],
-        &mut corners[..c],
-        &mut begins[..b],
-        &mut out,
-    );
+    let number = exports::solid_read_tape(tape, points, corners, begins, &mut out);
     case_show::show_answer(writer, number, &out)?;
-    show_tables(writer, text, at, &points[..p], &corners[..c], &begins[..b])
+    show_tables(writer, text, at, points, corners, begins)
 }
