@@ -10,7 +10,10 @@ take_both : (a n : ℕ) (xs : List ℕ) → take a xs ++ take n (take (length xs
 take_both a n xs = ap (λ rest. take a xs ++ take n rest) (take_rest xs a) ∙ sym (take-add a n xs)
 
 pub loop-done-preserved : goal.loop-done-preserved
-loop-done-preserved g c = record {
-  in_range = search rules;
-  written = subst (Appends _ _) (take_both c.loop-done.done c.in_ok-more.more c.args.buf.now) (Appends-trans _ _ _ _ _ c.loop-done.invariant.written c.in_ok-more.ensures.bytes);
-}
+loop-done-preserved g c =
+    let more = c.in_ok-more in
+    let joined = take_both c.loop-done.done more.more c.args.buf.now in
+    record {
+      in_range = search rules;
+      written = subst (Appends _ _) joined (Appends-trans _ _ _ _ _ c.loop-done.invariant.written more.ensures.bytes);
+    }
