@@ -4,8 +4,10 @@ use Rattle.whole.specs.Machine.{read_is, read_small, read-exact, exact_read}
 use Rattle.height.proofs.height.Goals as goal
 
 pub dot-requires : goal.dot-requires
-dot-requires c =
-    record { normal = (read_small w64 c.wide_part.ensures tt tt, read_small w64 c.wide_part-2.ensures tt tt, read_small w64 c.wide_part-3.ensures tt tt); difference = (read_small w64 c.wide_coord.ensures tt tt, read_small w64 c.wide_coord-2.ensures tt tt, read_small w64 c.wide_coord-3.ensures tt tt) }
+dot-requires c = record {
+  normal = (read_small w64 c.wide_part.ensures tt tt, read_small w64 c.wide_part-2.ensures tt tt, read_small w64 c.wide_part-3.ensures tt tt);
+  difference = (read_small w64 c.wide_coord.ensures tt tt, read_small w64 c.wide_coord-2.ensures tt tt, read_small w64 c.wide_coord-3.ensures tt tt);
+}
 
 pub returns : goal.returns
 returns c =

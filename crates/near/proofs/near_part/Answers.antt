@@ -1,6 +1,7 @@
 -- `near::near_part` meets its contract: the law of searches over the corners of a facet, and along the chain of each. Assumes nothing.
 use Rattle.std.proofs.Common.{arith}
-use Rattle.near.specs.Near.{nearing_0, nearing_more, nearing_none, own_facet, corner_small, chaining_0, chaining_hit, chaining_more, end_named, link_small, link_less}
+use Rattle.near.specs.Near.{nearing_0, nearing_more, nearing_none, own_facet, corner_small, chaining_0, chaining_hit, chaining_more, end_named}
+use Rattle.near.specs.Near.{link_small, link_less}
 use Rattle.near.proofs.near_part.Goals as goal
 
 pub part-part-requires : goal.part-part-requires

@@ -1,6 +1,7 @@
 -- `climb::Standing::climb` meets its contract. The loop's invariant is `Climbing`; the measure: the moves that are left to make. Assumes nothing.
 use Rattle.std.proofs.Common.{arith, length-set}
-use Rattle.climb.specs.Climb.{some_room, begin-ready, climbing_0, climbing_length, climbing_room, climbing_few, climbing_less, next-ready, climbing_more, climbing_end, climbed}
+use Rattle.climb.specs.Climb.{some_room, begin-ready, climbing_0, climbing_length, climbing_room, climbing_few, climbing_less, next-ready}
+use Rattle.climb.specs.Climb.{climbing_more, climbing_end, climbed}
 use Rattle.climb.proofs.Standing.climb.Goals as goal
 
 pub loop-here-init : goal.loop-here-init
