@@ -86,6 +86,7 @@ fn is_crowded(input: &[u8]) -> bool
 }
 
 // The direction that the input names.
+#[tactic(auto, unfolding(crate::specs::Input::direction_in))]
 pub fn direction_in(input: &[u8]) -> direction::Direction
     ensures { result ≡ direction_in input.now }
 {

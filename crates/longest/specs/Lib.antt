@@ -1,4 +1,3 @@
 -- The longest tape; the bytes beyond one more are no matter.
 pub mod Longest
-pub mod Sure
 pub mod Refusals

@@ -1,5 +1,5 @@
 -- How long a tape is that is read. Assumes nothing.
-use Rattle.std.specs.Prelude.{◌≡◌, refl, List, ℕ, zero, suc, ◌+◌, ◌*◌, ◌≤◌, length}
+use Rattle.std.specs.Prelude.{◌≡◌, List, ℕ, zero, suc, ◌+◌, ◌*◌, ◌≤◌, length}
 use Rattle.std.proofs.Common.{arith, length-append}
 use Rattle.whole.specs.Joined.{joined}
 use Rattle.tables.specs.Tables.{most_vertices, most_facets, most_corners}
@@ -14,9 +14,6 @@ longest_tape = 7 * most_vertices + most_facets + 2 * most_corners + 5
 -- "up to 21,510 bytes (one above the longest tape; the answer is already sure)"
 abbrev pub tape_room : ℕ
 tape_room = longest_tape + 1
-
-pub tape-room : tape_room ≡ 21510
-tape-room = refl
 
 -- where the records of n facets end
 place_is : (s : List ℕ) (at n : ℕ) → place s at n ≡ at + n + 2 * length (corners_at s at n)

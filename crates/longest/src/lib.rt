@@ -1,2 +1,2 @@
-// The longest tape, and that one byte more of an input settles its reading: laws alone, in specs/.
+// The longest tape, and that one byte more of an input settles its reading: laws alone, in specs/ and proofs/.
 #![tactic(auto)]

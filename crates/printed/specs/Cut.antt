@@ -6,7 +6,7 @@ use Rattle.reading.specs.declared.Reading.{Reading}
 use Rattle.reading.specs.declared.Reading.TheVariants.{Read, Refused}
 use Rattle.tape.specs.Reading.{read_tape}
 use Rattle.longest.specs.Longest.{tape_room, read_short}
-use Rattle.longest.specs.Sure.{read-cut}
+use Rattle.longest.proofs.Sure.{read-cut}
 use Rattle.load.specs.Tape.{of_tape}
 use Rattle.judge.specs.Judge.{judged}
 use Rattle.answers.specs.Answer.{at_offset}

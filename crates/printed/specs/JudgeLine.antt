@@ -7,7 +7,7 @@ use Rattle.reading.specs.declared.Reading.{Reading}
 use Rattle.reading.specs.declared.Reading.TheVariants.{Read, Refused}
 use Rattle.tape.specs.Reading.{read_tape}
 use Rattle.longest.specs.Longest.{tape_room}
-use Rattle.longest.specs.Sure.{read-cut}
+use Rattle.longest.proofs.Sure.{read-cut}
 use Rattle.longest.specs.Refusals.{Refusal, read-refusal}
 use Rattle.lines.specs.Line.{number_of_lem}
 use Rattle.judge_tape.specs.Tape.{judged_tape}
