@@ -4,7 +4,7 @@ use Rattle.whole.specs.First.{first_below}
 use Rattle.whole.specs.Count.{count_below, last_below}
 use Rattle.whole.specs.Orbit.{iterate}
 use Rattle.whole.specs.Rounds.{tab, rounds}
-use Rattle.space.specs.Vectors.{◌-◌, ◌·◌, det}
+use Rattle.space.specs.Vectors.{◌-ᵛ◌, ◌·◌, det}
 use Rattle.points.specs.Range.{is_out}
 use Rattle.points.specs.Points.{coord_of}
 use Rattle.tables.specs.Tables.{home_of, next_of}
@@ -86,7 +86,7 @@ pub record Cases : Type 0 where
 pub cases : Cases
 unfolding judged first_of is_size is_out coord_of first_below count_below last_below
     iterate tab rounds home_of next_of across_of round_of flooded is_bent is_turn
-    is_reflex is_outside ◌-◌ ◌·◌ det walked trail_after is_steep step after stood
+    is_reflex is_outside ◌-ᵛ◌ ◌·◌ det walked trail_after is_steep step after stood
 cases = record {
   J = record { answer = refl; trail_after = refl };
   K = record { answer = refl; trail_after = refl };

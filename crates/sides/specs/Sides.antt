@@ -3,7 +3,7 @@ use Rattle.std.specs.Prelude.{ℕ, Bool, cond, true, false, List, ℤ, pos, ◌�
 use Rattle.std.proofs.Common.{true≢false, sym}
 use Rattle.whole.specs.Formula.{ints}
 use Rattle.space.specs.Vec.{Vec, cross}
-use Rattle.space.specs.Vectors.{◌-◌, det}
+use Rattle.space.specs.Vectors.{◌-ᵛ◌, det}
 use Rattle.space.specs.Rows.{vec_of, list_of}
 use Rattle.sides.specs.declared.Side.{Side}
 use Rattle.sides.specs.declared.Side.TheVariants.{Inside, On, Outside}
@@ -20,7 +20,7 @@ pub record Three (points : List ℤ) (a b c : ℕ) : Type 0 where
 
 -- "The six-fold volume of points a, b, c, d is the determinant of three rows: b-a, c-a, d-a"
 abbrev pub volume : List ℤ → ℕ → ℕ → ℕ → ℕ → ℤ
-volume points a b c d = det (point points b - point points a) (point points c - point points a) (point points d - point points a)
+volume points a b c d = det (point points b -ᵛ point points a) (point points c -ᵛ point points a) (point points d -ᵛ point points a)
 
 -- "strictly inside when the determinant is negative, on the plane at zero, outside when positive"
 abbrev pub sign : ℤ → Side
@@ -31,7 +31,7 @@ side_of points a b c d = sign (volume points a b c d)
 
 -- "Its normal n is the cross product (b-a)×(c-a)"
 abbrev pub normal_at : List ℤ → ℕ → ℕ → ℕ → Vec ℤ
-normal_at points a b c = cross ints (point points b - point points a) (point points c - point points a)
+normal_at points a b c = cross ints (point points b -ᵛ point points a) (point points c -ᵛ point points a)
 
 abbrev pub normal_of : List ℤ → ℕ → ℕ → ℕ → List ℤ
 normal_of points a b c = list_of (normal_at points a b c)
@@ -41,7 +41,7 @@ in_line points a b c = is_nought (normal_of points a b c)
 
 -- "n·((b-a)×(c-a))" above 0
 abbrev pub is_left : List ℤ → List ℤ → ℕ → ℕ → ℕ → Bool
-is_left points n a b c = is_above (det (vec_of n) (point points b - point points a) (point points c - point points a))
+is_left points n a b c = is_above (det (vec_of n) (point points b -ᵛ point points a) (point points c -ᵛ point points a))
 
 abbrev pub is_inside : Side → Bool
 is_inside Inside = true

@@ -7,7 +7,7 @@ use Rattle.whole.specs.Orbit.{iterate}
 use Rattle.whole.specs.Rounds.{tab, rounds}
 use Rattle.points.specs.Range.{is_out}
 use Rattle.space.specs.Plane.{det as det²}
-use Rattle.space.specs.Vectors.{◌-◌, ◌·◌, det}
+use Rattle.space.specs.Vectors.{◌-ᵛ◌, ◌·◌, det}
 use Rattle.space.specs.Rows.{vec_of}
 use Rattle.points.specs.Points.{coord_of, point}
 use Rattle.sides.specs.Sides.{normal_of}
@@ -206,7 +206,7 @@ letters = refl
 pub all_sixteen : map (λ r. answer r.question) table ≡ map (λ r. r.reply) table
 unfolding judged first_of is_size is_out coord_of first_below count_below last_below
     iterate tab rounds home_of next_of across_of round_of flooded is_bent is_turn
-    is_reflex is_outside ◌-◌ ◌·◌ det walked trail_after is_steep step after stood
+    is_reflex is_outside ◌-ᵛ◌ ◌·◌ det walked trail_after is_steep step after stood
     judged_outline judged_turns few coordOf² before after² is_greater det² joined packed
     bytes_of bits over read_tape run look_at number_at signed place
 all_sixteen = refl

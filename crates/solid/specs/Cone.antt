@@ -3,7 +3,7 @@ use Rattle.std.specs.Prelude.{◌≡◌, refl, ◌⊎◌, ℤ, pos, ◌≤ℤ◌
 use Rattle.std.proofs.Common.{sym, subst, inl, inr}
 use Rattle.whole.specs.Order.{clash, not_le, not_lt, lt→le}
 use Rattle.space.specs.Vec.{Vec}
-use Rattle.space.specs.Vectors.{◌-◌, ◌·◌, det, swap-≤, cone_step, fall, unfall}
+use Rattle.space.specs.Vectors.{◌-ᵛ◌, ◌·◌, det, swap-≤, cone_step, fall, unfall}
 use Rattle.solid.specs.Left.{below_≤, below_<}
 use Rattle.solid.specs.Reach.{Around, here, hop}
 use Rattle.solid.specs.Surface.{Surface, under, not_above}
@@ -18,11 +18,11 @@ module _ {P F : Type 0} {M : Surface P F} (N : Near M) where
 
   -- From v the direction x leads above no facet's plane. No neighbour of v is above it along d, but x leads up. The ring at v starts at f, with u → v → q
   module _ {v : P} (x d : Vec ℤ) (x_below : (f : F) → Corner f v → normal f · x ≤ℤ pos 0)
-      (low : (f : F) (w : P) → Edge f v w → d · (at w - at v) ≤ℤ pos 0) (high : pos 0 <ℤ d · x)
+      (low : (f : F) (w : P) → Edge f v w → d · (at w -ᵛ at v) ≤ℤ pos 0) (high : pos 0 <ℤ d · x)
       {f : F} {u q : P} (into : Edge f u v) (out : Edge f v q) where
     -- on which side of the plane through v that holds u and x a vertex lies
     side : P → ℤ
-    side w = det (at u - at v) (at w - at v) x
+    side w = det (at u -ᵛ at v) (at w -ᵛ at v) x
 
     -- what is known of each facet on the way round from f: its edge into v starts on the positive side, until f comes again
     data Swept (g : F) : Type 0 where
@@ -32,17 +32,17 @@ module _ {P F : Type 0} {M : Surface P F} (N : Near M) where
 
     first_side : pos 0 ≤ℤ side q
     unfolding side
-    first_side = swap-≤ (at q - at v) (at u - at v) x (below_≤ (wedge M into out) x (x_below f (ends into)))
+    first_side = swap-≤ (at q -ᵛ at v) (at u -ᵛ at v) x (below_≤ (wedge M into out) x (x_below f (ends into)))
 
-    low_in : {g : F} {p : P} → Edge g p v → d · (at p - at v) ≤ℤ pos 0
+    low_in : {g : F} {p : P} → Edge g p v → d · (at p -ᵛ at v) ≤ℤ pos 0
     low_in e = let (h, r) = across e in low h _ r
 
     advance : {g : F} {p r : P} → Edge g p v → Edge g v r → pos 0 ≤ℤ side p → ¬ Corner g u → pos 0 <ℤ side r
     unfolding side
     advance {g} {p} {r} e o s away =
         let t = wedge M e o in
-        not_le (λ k. clash high (cone_step (at r - at v) (at p - at v) (at u - at v) x d
-        (below_< t (at u - at v) (under M (ends e) (neighbour_in N (ends e) into) away))
+        not_le (λ k. clash high (cone_step (at r -ᵛ at v) (at p -ᵛ at v) (at u -ᵛ at v) x d
+        (below_< t (at u -ᵛ at v) (under M (ends e) (neighbour_in N (ends e) into) away))
         (below_≤ t x (x_below g (ends e)))
         s k (low_in into) (low_in e) (low g r o)))
 
@@ -74,7 +74,7 @@ module _ {P F : Type 0} {M : Surface P F} (N : Near M) where
 
   -- L8, for any direction x that leads above no facet's plane at v
   pub cone : {f : F} {v : P} → Corner f v → (x d : Vec ℤ) → ((g : F) → Corner g v → normal g · x ≤ℤ pos 0)
-      → ((g : F) (w : P) → Edge g v w → d · (at w - at v) ≤ℤ pos 0) → d · x ≤ℤ pos 0
+      → ((g : F) (w : P) → Edge g v w → d · (at w -ᵛ at v) ≤ℤ pos 0) → d · x ≤ℤ pos 0
   cone c x d x_below low =
       let R = ring c in
       let (u, into) = prev R.at_start in
@@ -90,4 +90,4 @@ module _ {P F : Type 0} {M : Surface P F} (S : Solid M) where
   pub local_is_global : {f g : F} {v w : P} (d : Vec ℤ) → Corner f v → ((k : F) (u : P) → Edge k v u → d · at u ≤ℤ d · at v)
       → Corner g w → d · at w ≤ℤ d · at v
   local_is_global {v} {w} d cv low cw =
-      unfall d (at w) (at v) (cone (Lemma-R.near S) cv (at w - at v) d (λ g c. not_above M c (inside c cw)) (λ k u e. fall d (at u) (at v) (low k u e)))
+      unfall d (at w) (at v) (cone (Lemma-R.near S) cv (at w -ᵛ at v) d (λ g c. not_above M c (inside c cw)) (λ k u e. fall d (at u) (at v) (low k u e)))

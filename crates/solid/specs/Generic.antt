@@ -3,7 +3,7 @@ use Rattle.std.specs.Prelude.{◌≡◌, ◌≢◌, ◌+◌, ℤ, pos, ◌≤ℤ
 use Rattle.std.proofs.Common.{sym, subst}
 use Rattle.whole.specs.Order.{clash, not_lt}
 use Rattle.space.specs.Vec.{Vec}
-use Rattle.space.specs.Vectors.{◌-◌, ◌·◌, fall, climb, even, not_0}
+use Rattle.space.specs.Vectors.{◌-ᵛ◌, ◌·◌, fall, climb, even, not_0}
 use Rattle.solid.specs.Surface.{Surface}
 use Rattle.solid.specs.Box.{Box, box_sub}
 use Rattle.solid.specs.Key.{key, key-higher, key-0}
@@ -20,7 +20,7 @@ module _ {P F : Type 0} {M : Surface P F} (L : Local M) (n : Vec ℤ) where
   abbrev pub along : Vec ℤ
   along = key (pos (limit + limit)) n
 
-  apart : {f g : F} {u w : P} → Corner f u → Corner g w → Box (limit + limit) (at w - at u)
+  apart : {f g : F} {u w : P} → Corner f u → Corner g w → Box (limit + limit) (at w -ᵛ at u)
   apart cu cw = box_sub (in_box cw) (in_box cu)
 
   -- the height along n decides first
@@ -30,7 +30,7 @@ module _ {P F : Type 0} {M : Surface P F} (L : Local M) (n : Vec ℤ) where
   no_tie : {g : F} {u q w : P} → Edge g u q → Corner g w → w ≢ u → w ≢ q → along · at u ≢ along · at w
   no_tie {g} {u} {q} {w} o cw wu wq e =
       let (x, y, z) = key-0 (apart (starts o) cw) n (even along (at u) (at w) e) in
-      not_0 (normal g) (at q - at u) (at w - at u) x y z (turn o cw wu wq)
+      not_0 (normal g) (at q -ᵛ at u) (at w -ᵛ at u) x y z (turn o cw wu wq)
 
   one_height : {g : F} {u w : P} → Corner g u → Corner g w → along · at u ≡ along · at w → u ≡ w
   one_height {g} {u} {w} cu cw e =

@@ -3,7 +3,7 @@ use Rattle.std.proofs.Common.{sym, inl, inr}
 use Rattle.std.specs.Prelude.{ℤ, pos, ◌≤ℤ◌}
 use Rattle.std.specs.Int.Signed.{≤ℤ_refl}
 use Rattle.whole.specs.Order.{le_or_lt, lt→le, eq→le, not_le}
-use Rattle.space.specs.Vectors.{◌-◌, ◌·◌, not_lower}
+use Rattle.space.specs.Vectors.{◌-ᵛ◌, ◌·◌, not_lower}
 use Rattle.solid.specs.Reach.{Linked, self, link}
 use Rattle.solid.specs.Surface.{Surface, Inside}
 use Rattle.solid.specs.Local.{Local}
@@ -35,7 +35,7 @@ module _ {P F : Type 0} {M : Surface P F} (L : Local M) where
     rank z = along L (normal f) · at z
 
     -- l is not below the plane of f
-    module _ {g : F} {l : P} (cl : Corner g l) (high : pos 0 ≤ℤ normal f · (at l - at (first f))) where
+    module _ {g : F} {l : P} (cl : Corner g l) (high : pos 0 ≤ℤ normal f · (at l -ᵛ at (first f))) where
       -- a way from f that is nowhere lower than l stays on f
       stays : {z : P} → Path Corner (λ z. rank l ≤ℤ rank z) u z → Corner f z
       unfolding rank
@@ -49,7 +49,7 @@ module _ {P F : Type 0} {M : Surface P F} (L : Local M) where
       lies cw hu hw = stays (ridge near (generic L (normal f)) (way cu cw) (rank l) hu hw)
 
     -- and where w is not below it, there is such a way from u to w
-    holds : {h : F} {w : P} → Corner h w → pos 0 ≤ℤ normal f · (at w - at (first f)) → Corner f w
+    holds : {h : F} {w : P} → Corner h w → pos 0 ≤ℤ normal f · (at w -ᵛ at (first f)) → Corner f w
     holds {w} cw high = elim (le_or_lt (rank u) (rank w)) [
       | inl k ↦ lies cu (eq→le (sym (flat cu))) cw (≤ℤ_refl (rank u)) k
       | inr k ↦ lies cw high cw (lt→le k) (≤ℤ_refl (rank w))

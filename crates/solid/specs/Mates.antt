@@ -1,7 +1,7 @@
 -- N extended: the rule for neighbours holds of all corners of the facets at a vertex. Assumes nothing.
 use Rattle.std.specs.Prelude.{◌≡◌, ◌≢◌, pos, ◌≤ℤ◌}
 use Rattle.std.proofs.Common.{sym, subst, inl, inr}
-use Rattle.space.specs.Vectors.{◌-◌, ◌·◌}
+use Rattle.space.specs.Vectors.{◌-ᵛ◌, ◌·◌}
 use Rattle.solid.specs.Left.{between_0}
 use Rattle.solid.specs.Surface.{Surface, Inside, not_above, touches, from_start, from_end}
 use Rattle.solid.specs.Near.{Near, neighbour_in}
@@ -25,9 +25,9 @@ module _ {P F : Type 0} {M : Surface P F} (N : Near M) where
         no_digon N i j (subst (λ z. Edge g z v) pb e) (subst (λ z. Edge g v z) qa o)
 
     -- nor does it touch g where it holds no side
-    module _ (high : pos 0 ≤ℤ normal f · (at c - at v)) (out : ¬ Corner f c) where
+    module _ (high : pos 0 ≤ℤ normal f · (at c -ᵛ at v)) (out : ¬ Corner f c) where
       no_side : {z : P} → (¬ Corner f z → Inside M f z) → c ≢ z
-      no_side {z} i s = out (subst (λ z. Corner f z) (sym s) (touches M cf i (subst (λ z. pos 0 ≤ℤ normal f · (at z - at v)) s high)))
+      no_side {z} i s = out (subst (λ z. Corner f z) (sym s) (touches M cf i (subst (λ z. pos 0 ≤ℤ normal f · (at z -ᵛ at v)) s high)))
 
       not_touched : ⊥
       not_touched =
@@ -40,5 +40,5 @@ module _ {P F : Type 0} {M : Surface P F} (N : Near M) where
           (not_above M cf at-q) (not_above M cf at_p) high in
           not_both (λ s. out (subst (λ k. Corner k c) (sym s) cc)) e o (touches M cf at_p hp) (touches M cf at-q hq)
 
-    pub mate_touches : pos 0 ≤ℤ normal f · (at c - at v) → Corner f c
+    pub mate_touches : pos 0 ≤ℤ normal f · (at c -ᵛ at v) → Corner f c
     mate_touches high = elim (corner? f c) [ yes k ↦ k | no out ↦ absurd (not_touched high out) ]

@@ -7,7 +7,7 @@ use Rattle.whole.specs.Solver.{Expr, Eqn, num, ◌≐◌}
 use Rattle.whole.specs.Formula.{exprs}
 use Rattle.whole.specs.First.{first_below, first_holds, never}
 use Rattle.space.specs.Vec.{Vec, sub, det as det³, solve³}
-use Rattle.space.specs.Vectors.{◌-◌, ◌·◌, det}
+use Rattle.space.specs.Vectors.{◌-ᵛ◌, ◌·◌, det}
 use Rattle.space.specs.Algebra.{det-last}
 use Rattle.solid.specs.Surface.{Surface}
 use Rattle.solid.specs.Near.{Near}
@@ -29,8 +29,8 @@ besides (suc f) (suc g) = (0, omega arith, omega arith, omega arith)
 flatᵉ : Vec Expr → Vec Expr → Vec Expr → Vec Expr → Eqn
 flatᵉ a b c d = det³ exprs (sub exprs b a) (sub exprs c a) (sub exprs d a) ≐ num (pos 0)
 
-own_plane : (a b c : Vec ℤ) → (det (b - a) (c - a) (a - a) ≡ pos 0) × (det (b - a) (c - a) (b - a) ≡ pos 0) × (det (b - a) (c - a) (c - a) ≡ pos 0)
-unfolding flatᵉ det ◌-◌
+own_plane : (a b c : Vec ℤ) → (det (b -ᵛ a) (c -ᵛ a) (a -ᵛ a) ≡ pos 0) × (det (b -ᵛ a) (c -ᵛ a) (b -ᵛ a) ≡ pos 0) × (det (b -ᵛ a) (c -ᵛ a) (c -ᵛ a) ≡ pos 0)
+unfolding flatᵉ det ◌-ᵛ◌
 own_plane a b c =
     (solve³ 3 (λ a b c. flatᵉ a b c a) tt a b c, solve³ 3 (λ a b c. flatᵉ a b c b) tt a b c, solve³ 3 (λ a b c. flatᵉ a b c c) tt a b c)
 
@@ -38,9 +38,9 @@ module _ (t : Tables) where
   open t use {vertices, facets, size, corner, at}
 
   -- the six-fold volume, by the normal
-  pub volume-is : (f w : ℕ) → normal t f · (at w - at (corner f 0)) ≡ volume t f w
+  pub volume-is : (f w : ℕ) → normal t f · (at w -ᵛ at (corner f 0)) ≡ volume t f w
   unfolding normal
-  volume-is f w = det-last (at (corner f 1) - at (corner f 0)) (at (corner f 2) - at (corner f 0)) (at w - at (corner f 0))
+  volume-is f w = det-last (at (corner f 1) -ᵛ at (corner f 0)) (at (corner f 2) -ᵛ at (corner f 0)) (at w -ᵛ at (corner f 0))
 
   -- a facet's first three corners are on its plane, so all are
   own : (f : ℕ) → OnPlane t f (corner f 0) × OnPlane t f (corner f 1) × OnPlane t f (corner f 2)
@@ -96,7 +96,7 @@ module _ (t : Tables) where
           let (g, r) = reverse e.place in
           (g, record { i = r.i; place = r.place; from = r.from ∙ e.to; to = r.to ∙ e.from })
 
-      pub turns : {f a b c : ℕ} → Edge t f a b → Corner t f c → c ≢ a → c ≢ b → pos 0 <ℤ det (normal t f) (at b - at a) (at c - at a)
+      pub turns : {f a b c : ℕ} → Edge t f a b → Corner t f c → c ≢ a → c ≢ b → pos 0 <ℤ det (normal t f) (at b -ᵛ at a) (at c -ᵛ at a)
       turns e c ca cb = rw (← e.from, ← e.to, ← c.names)
           (turn e.place c.place (λ s. ca (sym c.names ∙ s ∙ e.from)) (λ s. cb (sym c.names ∙ s ∙ e.to)))
 

@@ -4,7 +4,7 @@ use Rattle.std.proofs.Common.{sym, subst}
 use Rattle.std.specs.Prelude.{◌≢◌, ℤ, pos, ◌<ℤ◌}
 use Rattle.whole.specs.Order.{clash, eq→le, lt→le}
 use Rattle.space.specs.Vec.{Vec}
-use Rattle.space.specs.Vectors.{◌-◌, ◌·◌}
+use Rattle.space.specs.Vectors.{◌-ᵛ◌, ◌·◌}
 use Rattle.space.specs.Algebra.{coplanar}
 use Rattle.solid.specs.Left.{Left, upright, below_<, two_sided, opposed}
 use Rattle.solid.specs.Surface.{Surface, no_loop, on_plane, under, not_above, from_start, from_end}
@@ -16,7 +16,7 @@ module _ {P F : Type 0} {M : Surface P F} (S : Solid M) where
   open S use {inside, third}
 
   -- the corner after b is left of a → b
-  third_corner : {f : F} {a b : P} → Edge f a b → (c : P) × Corner f c × Left (normal f) (at b - at a) (at c - at a)
+  third_corner : {f : F} {a b : P} → Edge f a b → (c : P) × Corner f c × Left (normal f) (at b -ᵛ at a) (at c -ᵛ at a)
   third_corner {f} {a} {b} e =
       let (c, k) = next (ends e) in
       (c, ends k, from_start M e (ends k) (λ s. no_return e (subst (λ z. Edge f b z) s k)) (λ s. no_loop M k (sym s)))
@@ -29,7 +29,7 @@ module _ {P F : Type 0} {M : Surface P F} (S : Solid M) where
   shared : {f g : F} {a : P} {x y : Vec ℤ} → Corner f a → Corner g a → Left (normal f) x y → Left (normal g) y x → Holds-all f
   shared {f} {a} cf cg s t k w cw = elim (corner? f w) [
     | yes i ↦ i
-    | no out ↦ absurd (two_sided s t (at w - at a) (under M cf (inside cf cw) out) (not_above M cg (inside cg cw)))
+    | no out ↦ absurd (two_sided s t (at w -ᵛ at a) (under M cf (inside cf cw) out) (not_above M cg (inside cg cw)))
   ]
 
   -- then they all lie in one plane, and each facet holds them all
@@ -38,11 +38,11 @@ module _ {P F : Type 0} {M : Surface P F} (S : Solid M) where
       let (c, cf, s) = third_corner e in
       let (r, cr, t) = third_corner i in
       let cp = all g p (starts i) in
-      let flat = coplanar (normal f) (at q - at p) (at r - at p) (at w - at p) (upright s)
+      let flat = coplanar (normal f) (at q -ᵛ at p) (at r -ᵛ at p) (at w -ᵛ at p) (upright s)
       (on_plane M cp (all g q (ends i))) (on_plane M cp (all g r cr)) (on_plane M cp (all k w cw)) in
       elim (corner? g w) [
         | yes j ↦ j
-        | no out ↦ absurd (clash (below_< t (at w - at p) (under M (starts i) (inside (starts i) cw) out)) (eq→le (sym flat)))
+        | no out ↦ absurd (clash (below_< t (at w -ᵛ at p) (under M (starts i) (inside (starts i) cw) out)) (eq→le (sym flat)))
       ]
 
   -- two facets that hold them all look in opposite ways: else they have an edge in common

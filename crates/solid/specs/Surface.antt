@@ -4,7 +4,7 @@ use Rattle.std.specs.Prelude.{◌≡◌, ◌≢◌, ℤ, pos, ◌≤ℤ◌, ◌<
 use Rattle.std.proofs.Common.{sym, subst}
 use Rattle.whole.specs.Order.{clash, lt→le, eq→le}
 use Rattle.space.specs.Vec.{Vec}
-use Rattle.space.specs.Vectors.{◌-◌, ◌·◌, det, rotate, level, lower}
+use Rattle.space.specs.Vectors.{◌-ᵛ◌, ◌·◌, det, rotate, level, lower}
 use Rattle.solid.specs.Left.{Left}
 use Rattle.solid.specs.Reach.{Ring}
 
@@ -30,9 +30,9 @@ pub record Surface (P F : Type 0) : Type 1 where
   -- RING
   pub ring : {f : F} {v : P} → Corner f v → Ring Corner Edge v
   -- BENT
-  pub flat : {f : F} {w : P} → Corner f w → normal f · (at w - at (first f)) ≡ pos 0
+  pub flat : {f : F} {w : P} → Corner f w → normal f · (at w -ᵛ at (first f)) ≡ pos 0
   -- TURN
-  pub turn : {f : F} {a b c : P} → Edge f a b → Corner f c → c ≢ a → c ≢ b → pos 0 <ℤ det (normal f) (at b - at a) (at c - at a)
+  pub turn : {f : F} {a b c : P} → Edge f a b → Corner f c → c ≢ a → c ≢ b → pos 0 <ℤ det (normal f) (at b -ᵛ at a) (at c -ᵛ at a)
 
 module _ {P F : Type 0} (M : Surface P F) where
   open M use {Corner, Edge, at, normal, first, corner?, flat, starts, ends, one_next, no_return, one_facet, turn}
@@ -46,28 +46,28 @@ module _ {P F : Type 0} (M : Surface P F) where
 
   -- w is strictly inside f's plane
   abbrev pub Inside : F → P → Type 0
-  Inside f w = normal f · (at w - at (first f)) <ℤ pos 0
+  Inside f w = normal f · (at w -ᵛ at (first f)) <ℤ pos 0
 
   -- ---- where a vertex lies to f's plane, seen from any corner u of f
 
-  pub on_plane : {f : F} {u w : P} → Corner f u → Corner f w → normal f · (at w - at u) ≡ pos 0
+  pub on_plane : {f : F} {u w : P} → Corner f u → Corner f w → normal f · (at w -ᵛ at u) ≡ pos 0
   on_plane {f} {u} {w} cu cw = level (normal f) (at (first f)) (at u) (at w) (flat cu) (flat cw)
 
   -- w is a corner of f, or strictly inside
   module _ {f : F} {u w : P} (cu : Corner f u) (inside : ¬ Corner f w → Inside f w) where
-    pub under : ¬ Corner f w → normal f · (at w - at u) <ℤ pos 0
+    pub under : ¬ Corner f w → normal f · (at w -ᵛ at u) <ℤ pos 0
     under out = lower (normal f) (at (first f)) (at u) (at w) (flat cu) (inside out)
 
-    pub not_above : normal f · (at w - at u) ≤ℤ pos 0
+    pub not_above : normal f · (at w -ᵛ at u) ≤ℤ pos 0
     not_above = elim (corner? f w) [ yes c ↦ eq→le (on_plane cu c) | no out ↦ lt→le (under out) ]
 
-    pub touches : pos 0 ≤ℤ normal f · (at w - at u) → Corner f w
+    pub touches : pos 0 ≤ℤ normal f · (at w -ᵛ at u) → Corner f w
     touches h = elim (corner? f w) [ yes c ↦ c | no out ↦ absurd (clash (under out) h) ]
 
   -- ---- TURN, seen from either end of an edge
 
-  pub from_start : {f : F} {a b c : P} → Edge f a b → Corner f c → c ≢ a → c ≢ b → Left (normal f) (at b - at a) (at c - at a)
+  pub from_start : {f : F} {a b c : P} → Edge f a b → Corner f c → c ≢ a → c ≢ b → Left (normal f) (at b -ᵛ at a) (at c -ᵛ at a)
   from_start e i ca cb = record { left = turn e i ca cb; on_a = on_plane (starts e) (ends e); on_b = on_plane (starts e) i }
 
-  pub from_end : {f : F} {a b c : P} → Edge f a b → Corner f c → c ≢ a → c ≢ b → Left (normal f) (at c - at b) (at a - at b)
+  pub from_end : {f : F} {a b c : P} → Edge f a b → Corner f c → c ≢ a → c ≢ b → Left (normal f) (at c -ᵛ at b) (at a -ᵛ at b)
   from_end e i ca cb = record { left = rw rotate at (turn e i ca cb); on_a = on_plane (ends e) i; on_b = on_plane (ends e) (starts e) }

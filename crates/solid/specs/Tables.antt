@@ -3,7 +3,7 @@
 use Rattle.std.specs.Prelude.{◌≡◌, ◌≢◌, cond, ℕ, suc, ◌≤◌, ◌<◌, eqb, ℤ, pos, ◌<ℤ◌}
 use Rattle.whole.specs.Formula.{ints}
 use Rattle.space.specs.Vec.{Vec, vec, cross}
-use Rattle.space.specs.Vectors.{◌-◌, det}
+use Rattle.space.specs.Vectors.{◌-ᵛ◌, det}
 use Rattle.solid.specs.Reach.{Ring, Linked}
 use Rattle.solid.specs.Box.{Box}
 
@@ -50,11 +50,11 @@ module _ (t : Tables) where
 
   -- "A facet's plane comes from its first three corners a, b, c. Its normal n is the cross product (b-a)×(c-a)."
   unfoldable pub normal : ℕ → Vec ℤ
-  normal f = cross ints (at (corner f 1) - at (corner f 0)) (at (corner f 2) - at (corner f 0))
+  normal f = cross ints (at (corner f 1) -ᵛ at (corner f 0)) (at (corner f 2) -ᵛ at (corner f 0))
 
   -- "The six-fold volume of points a, b, c, d is the determinant of three rows of three whole numbers: b-a, c-a, d-a." Here d is vertex w
   abbrev pub volume : ℕ → ℕ → ℤ
-  volume f w = det (at (corner f 1) - at (corner f 0)) (at (corner f 2) - at (corner f 0)) (at w - at (corner f 0))
+  volume f w = det (at (corner f 1) -ᵛ at (corner f 0)) (at (corner f 2) -ᵛ at (corner f 0)) (at w -ᵛ at (corner f 0))
 
   -- "Point d is strictly inside when the determinant is negative, on the plane at zero"
   abbrev pub Inside : ℕ → ℕ → Type 0
@@ -99,7 +99,7 @@ module _ (t : Tables) where
     pub on_plane : {f i : ℕ} → Place f i → 3 ≤ i → OnPlane f (corner f i)
     -- 10 TURN: for edge a to b, each corner c other than a, b has n·((b-a)×(c-a)) above 0
     pub turn : {f i j : ℕ} → Place f i → Place f j → corner f j ≢ corner f i → corner f j ≢ next f i
-        → pos 0 <ℤ det (normal f) (at (next f i) - at (corner f i)) (at (corner f j) - at (corner f i))
+        → pos 0 <ℤ det (normal f) (at (next f i) -ᵛ at (corner f i)) (at (corner f j) -ᵛ at (corner f i))
 
   -- "every other corner strictly inside each facet's plane"
   pub record Outside : Type 0 where

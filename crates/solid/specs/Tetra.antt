@@ -2,7 +2,7 @@
 use Rattle.std.specs.Prelude.{◌≡◌, ◌⊎◌, ℕ, zero, suc, ◌<◌, ℤ, pos, ◌<ℤ◌}
 use Rattle.std.proofs.Common.{subst, inl, inr, arith}
 use Rattle.space.specs.Vec.{Vec, vec}
-use Rattle.space.specs.Vectors.{◌-◌, ◌·◌, det}
+use Rattle.space.specs.Vectors.{◌-ᵛ◌, ◌·◌, det}
 use Rattle.solid.specs.Reach.{Around, here, hop, Ring, Linked, self, link}
 use Rattle.solid.specs.Box.{Box}
 use Rattle.solid.specs.Decide.{run, via, same?, less?, below?, ¬?, ◌→?◌, ◌×?◌, ◌⊎?◌, all?, some?}
@@ -88,16 +88,16 @@ closed = record {
 }
 
 pub flat : Flat tetra
-unfolding after normal det ◌·◌ ◌-◌
+unfolding after normal det ◌·◌ ◌-ᵛ◌
 flat = record {
   not_in_line = λ f h s. (subst (λ n. pos 0 <ℤ n · n) s (run (all? 4 (λ f. below? (pos 0) (normal tetra f · normal tetra f))) tt f h)).lt;
   on_plane = λ p h. absurd (omega (arith, p.position));
   turn = λ {f} {i} {j} p q. run (places? (λ f i. all? 3 (λ j. ¬? (same? (corner f j) (corner f i)) →? ¬? (same? (corner f j) (next tetra f i)) →?
-      below? (pos 0) (det (normal tetra f) (at (next tetra f i) - at (corner f i)) (at (corner f j) - at (corner f i)))))) tt f i p j q.position;
+      below? (pos 0) (det (normal tetra f) (at (next tetra f i) -ᵛ at (corner f i)) (at (corner f j) -ᵛ at (corner f i)))))) tt f i p j q.position;
 }
 
 pub outside : Outside tetra
-unfolding det ◌-◌
+unfolding det ◌-ᵛ◌
 outside = record { inside = λ f w hf hw. run (all? 4 (λ f. all? 4 (λ w. ¬? (corner? f w) →? below? (volume tetra f w) (pos 0)))) tt f hf w hw }
 
 pub convex : Convex tetra

@@ -3,7 +3,7 @@ use Rattle.std.specs.Prelude.{◌≡◌, refl, ◌≢◌, ◌↔◌, ℕ, ◌<�
 use Rattle.std.proofs.Common.{sym, ◌∙◌}
 use Rattle.whole.specs.Order.{eq→le}
 use Rattle.space.specs.Vec.{Vec}
-use Rattle.space.specs.Vectors.{◌-◌, ◌·◌}
+use Rattle.space.specs.Vectors.{◌-ᵛ◌, ◌·◌}
 use Rattle.solid.specs.Surface.{Surface, not_above, touches}
 use Rattle.solid.specs.Solid.{Solid}
 use Rattle.solid.specs.Local.{Local}
@@ -56,7 +56,7 @@ module _ {t : Tables} (S : Sized t) where
 
     -- L8: x is any vector that leads from v above no facet's plane there, and no neighbour of v is above it along d
     pub cone : (v : ℕ) → v < vertices → (x d : Vec ℤ) → ((f i : ℕ) → Place t f i → corner f i ≡ v → normal t f · x ≤ℤ pos 0)
-        → ((f i : ℕ) → Place t f i → corner f i ≡ v → d · (at (next t f i) - at v) ≤ℤ pos 0) → d · x ≤ℤ pos 0
+        → ((f i : ℕ) → Place t f i → corner f i ≡ v → d · (at (next t f i) -ᵛ at v) ≤ℤ pos 0) → d · x ≤ℤ pos 0
     cone v hv x d below low = L8.cone (Lemma-R.near body) (used v hv).1 x d (λ f c. below f c.i c.place c.names)
         (λ f w e. rw (← e.to) (low f e.i e.place e.from))
 

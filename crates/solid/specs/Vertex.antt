@@ -2,7 +2,7 @@
 use Rattle.std.specs.Prelude.{◌≡◌, ◌≢◌, ◌⊎◌}
 use Rattle.std.proofs.Common.{sym, inl, inr}
 use Rattle.whole.specs.Order.{eq→le}
-use Rattle.space.specs.Vectors.{◌-◌}
+use Rattle.space.specs.Vectors.{◌-ᵛ◌}
 use Rattle.solid.specs.Left.{Left, between_0, not_left_of_both}
 use Rattle.solid.specs.Surface.{Surface, no_loop, on_plane, not_above, touches, from_start, from_end}
 use Rattle.solid.specs.Near.{Near, neighbour_in, only_ends}
@@ -21,10 +21,10 @@ module _ {P F : Type 0} {M : Surface P F} (N : Near M) where
     -- L5: an edge from a corner of f to v is no diagonal of f
     module _ {g : F} {u : P} (cu : Corner f u) (e : Edge g u v) where
       module _ (not-p : u ≢ p) (not-q : u ≢ q) where
-        left-of_q : Left (normal f) (at q - at v) (at u - at v)
+        left-of_q : Left (normal f) (at q -ᵛ at v) (at u -ᵛ at v)
         left-of_q = from_start M out cu (no_loop M e) not-q
 
-        right_of_p : Left (normal f) (at u - at v) (at p - at v)
+        right_of_p : Left (normal f) (at u -ᵛ at v) (at p -ᵛ at v)
         right_of_p = from_end M into cu not-p (no_loop M e)
 
         -- the plane of g holds u, and has neither q nor p above it: it holds both

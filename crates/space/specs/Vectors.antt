@@ -5,10 +5,10 @@ use Rattle.whole.specs.Order.{◌≼◌, ◌≺◌, ◌≃◌, ◌⇒◌, ◌sin
 use Rattle.whole.specs.Formula.{Ops, ints, exprs}
 use Rattle.space.specs.Vec.{Vec, sub, dot, cross, det as det³, solve³, prove³}
 
-infixl 75 ◌-◌
+infixl 75 ◌-ᵛ◌
 infix 70 ◌·◌
-unfoldable pub ◌-◌ : Vec ℤ → Vec ℤ → Vec ℤ
-◌-◌ p q = sub ints p q
+unfoldable pub ◌-ᵛ◌ : Vec ℤ → Vec ℤ → Vec ℤ
+◌-ᵛ◌ p q = sub ints p q
 
 unfoldable pub ◌·◌ : Vec ℤ → Vec ℤ → ℤ
 ◌·◌ p q = dot ints p q
@@ -40,8 +40,8 @@ not_0 n a r hx hy hz h = never (prove³ 3 (λ n a r. let o = num (pos 0) in let 
 -- ---- orientation
 
 -- c left of a → b is a left of b → c
-pub rotate : (n a b c : Vec ℤ) → det n (b - a) (c - a) ≡ det n (c - b) (a - b)
-unfolding det ◌-◌
+pub rotate : (n a b c : Vec ℤ) → det n (b -ᵛ a) (c -ᵛ a) ≡ det n (c -ᵛ b) (a -ᵛ b)
+unfolding det ◌-ᵛ◌
 rotate = solve³ 4 (λ n a b c. det³ exprs n (sub exprs b a) (sub exprs c a) ≐ det³ exprs n (sub exprs c b) (sub exprs a b)) tt
 
 pub swap-≤ : (a b c : Vec ℤ) → det a b c ≤ℤ pos 0 → pos 0 ≤ℤ det b a c
@@ -75,42 +75,42 @@ cone_step a b e x d h i j k de db da =
 
 -- ---- heights
 
-pub fall : (d p q : Vec ℤ) → d · p ≤ℤ d · q → d · (p - q) ≤ℤ pos 0
-unfolding ◌·◌ ◌-◌
+pub fall : (d p q : Vec ℤ) → d · p ≤ℤ d · q → d · (p -ᵛ q) ≤ℤ pos 0
+unfolding ◌·◌ ◌-ᵛ◌
 fall = prove³ 3 (λ d p q. dot exprs d p ≼ dot exprs d q ⇒ λ h. dot exprs d (sub exprs p q) ≼ num (pos 0) since hyp h) tt
 
-pub unfall : (d p q : Vec ℤ) → d · (p - q) ≤ℤ pos 0 → d · p ≤ℤ d · q
-unfolding ◌·◌ ◌-◌
+pub unfall : (d p q : Vec ℤ) → d · (p -ᵛ q) ≤ℤ pos 0 → d · p ≤ℤ d · q
+unfolding ◌·◌ ◌-ᵛ◌
 unfall = prove³ 3 (λ d p q. dot exprs d (sub exprs p q) ≼ num (pos 0) ⇒ λ h. dot exprs d p ≼ dot exprs d q since hyp h) tt
 
-pub drop : (d p q : Vec ℤ) → d · p <ℤ d · q → d · (p - q) <ℤ pos 0
-unfolding ◌·◌ ◌-◌
+pub drop : (d p q : Vec ℤ) → d · p <ℤ d · q → d · (p -ᵛ q) <ℤ pos 0
+unfolding ◌·◌ ◌-ᵛ◌
 drop = prove³ 3 (λ d p q. dot exprs d p ≺ dot exprs d q ⇒ λ h. dot exprs d (sub exprs p q) ≺ num (pos 0) since hyp h) tt
 
-pub climb : (d p q : Vec ℤ) → d · p <ℤ d · q → pos 0 <ℤ d · (q - p)
-unfolding ◌·◌ ◌-◌
+pub climb : (d p q : Vec ℤ) → d · p <ℤ d · q → pos 0 <ℤ d · (q -ᵛ p)
+unfolding ◌·◌ ◌-ᵛ◌
 climb = prove³ 3 (λ d p q. dot exprs d p ≺ dot exprs d q ⇒ λ h. num (pos 0) ≺ dot exprs d (sub exprs q p) since hyp h) tt
 
-pub even : (d p q : Vec ℤ) → d · p ≡ d · q → d · (q - p) ≡ pos 0
-unfolding ◌·◌ ◌-◌
+pub even : (d p q : Vec ℤ) → d · p ≡ d · q → d · (q -ᵛ p) ≡ pos 0
+unfolding ◌·◌ ◌-ᵛ◌
 even = prove³ 3 (λ d p q. dot exprs d p ≃ dot exprs d q ⇒ λ h. dot exprs d (sub exprs q p) ≃ num (pos 0) since by (num (negsuc 0)) h) tt
 
 -- seen from a point u of a plane through c
-pub level : (n c u w : Vec ℤ) → n · (u - c) ≡ pos 0 → n · (w - c) ≡ pos 0 → n · (w - u) ≡ pos 0
-unfolding ◌·◌ ◌-◌
+pub level : (n c u w : Vec ℤ) → n · (u -ᵛ c) ≡ pos 0 → n · (w -ᵛ c) ≡ pos 0 → n · (w -ᵛ u) ≡ pos 0
+unfolding ◌·◌ ◌-ᵛ◌
 level = prove³ 4 (λ n c u w. let o = num (pos 0) in
     dot exprs n (sub exprs u c) ≃ o ⇒ λ h. dot exprs n (sub exprs w c) ≃ o ⇒ λ k.
     dot exprs n (sub exprs w u) ≃ o since by (num (pos 1)) k ⊞ by (neg (num (pos 1))) h) tt
 
-pub lower : (n c u w : Vec ℤ) → n · (u - c) ≡ pos 0 → n · (w - c) <ℤ pos 0 → n · (w - u) <ℤ pos 0
-unfolding ◌·◌ ◌-◌
+pub lower : (n c u w : Vec ℤ) → n · (u -ᵛ c) ≡ pos 0 → n · (w -ᵛ c) <ℤ pos 0 → n · (w -ᵛ u) <ℤ pos 0
+unfolding ◌·◌ ◌-ᵛ◌
 lower = prove³ 4 (λ n c u w. let o = num (pos 0) in
     dot exprs n (sub exprs u c) ≃ o ⇒ λ h. dot exprs n (sub exprs w c) ≺ o ⇒ λ k.
     dot exprs n (sub exprs w u) ≺ o since hyp k ⊞ by (neg (num (pos 1))) h) tt
 
 -- z is no lower than l, and l no lower than a plane through c and y
-pub not_lower : (n c y l z : Vec ℤ) → n · (y - c) ≡ pos 0 → pos 0 ≤ℤ n · (l - c) → n · l ≤ℤ n · z → pos 0 ≤ℤ n · (z - y)
-unfolding ◌·◌ ◌-◌
+pub not_lower : (n c y l z : Vec ℤ) → n · (y -ᵛ c) ≡ pos 0 → pos 0 ≤ℤ n · (l -ᵛ c) → n · l ≤ℤ n · z → pos 0 ≤ℤ n · (z -ᵛ y)
+unfolding ◌·◌ ◌-ᵛ◌
 not_lower = prove³ 5 (λ n c y l z. let o = num (pos 0) in
     dot exprs n (sub exprs y c) ≃ o ⇒ λ h. o ≼ dot exprs n (sub exprs l c) ⇒ λ i. dot exprs n l ≼ dot exprs n z ⇒ λ j.
     o ≼ dot exprs n (sub exprs z y) since hyp i ⊞ hyp j ⊞ hyp h) tt
@@ -123,7 +123,7 @@ sumᵒ O a b c =
 unfoldable pub sum : Vec ℤ → Vec ℤ → Vec ℤ → Vec ℤ
 sum a b c = sumᵒ ints a b c
 
-pub rise_sum : (a b c w v : Vec ℤ) → sum a b c · v ≤ℤ sum a b c · w → pos 0 ≤ℤ (a · (w - v) +ℤ b · (w - v) +ℤ c · (w - v))
-unfolding sum ◌·◌ ◌-◌
+pub rise_sum : (a b c w v : Vec ℤ) → sum a b c · v ≤ℤ sum a b c · w → pos 0 ≤ℤ (a · (w -ᵛ v) +ℤ b · (w -ᵛ v) +ℤ c · (w -ᵛ v))
+unfolding sum ◌·◌ ◌-ᵛ◌
 rise_sum = prove³ 5 (λ a b c w v. let r = sub exprs w v in dot exprs (sumᵒ exprs a b c) v ≼ dot exprs (sumᵒ exprs a b c) w ⇒ λ h.
     num (pos 0) ≼ dot exprs a r ⊕ dot exprs b r ⊕ dot exprs c r since hyp h) tt

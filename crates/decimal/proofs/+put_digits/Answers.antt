@@ -1,5 +1,5 @@
 -- The digits of a tenth are stored first, then the last digit. Assumes nothing.
-use Rattle.std.proofs.Common.{rules, ◌≡◌, ℕ, ◌+◌, ◌/◌, ◌<◌, ◌≤◌, ◌%◌, List, [], ◌∷◌, set, length, arith, length-set}
+use Rattle.std.proofs.Common.{rules, ℕ, ◌+◌, ◌/◌, ◌<◌, ◌≤◌, ◌%◌, List, [], ◌∷◌, set, length, arith}
 use Rattle.whole.specs.Stores.{sets_append}
 use Rattle.decimal.specs.Shown.{digit, digits, digit-is, digits_are, length-digit, length_digits}
 use Rattle.decimal.specs.Stored.{Stored}

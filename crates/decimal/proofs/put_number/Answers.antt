@@ -1,5 +1,5 @@
 -- A minus sign is stored before the digits, or nothing. Assumes nothing.
-use Rattle.std.proofs.Common.{◌≡◌, ◌∙◌, ap, ◌∷◌, add-one, arith, nat_abs, length, length-set, to_z-of_z}
+use Rattle.std.proofs.Common.{◌≡◌, ◌∙◌, ap, ◌∷◌, add-one, arith, length, length-set, to_z-of_z}
 use Rattle.decimal.specs.Shown.{digits, shown, shown-below, shown-above}
 use Rattle.decimal.proofs.put_number.Goals as goal
 

@@ -1,6 +1,5 @@
 -- `numbers::number` meets its contract. Assumes nothing.
-use Rattle.std.proofs.Common.{rules, ◌≡◌, sym, ◌∙◌, ap, true, arith, ◌-◌, ◌≤◌, length, take, drop, length-drop, take_all}
-use Rattle.numbers.specs.Number.{has_minus}
+use Rattle.std.proofs.Common.{rules, ◌≡◌, sym, ◌∙◌, ap, true, arith, ◌-◌, length, take, drop, length-drop, take_all}
 use Rattle.numbers.specs.Reading.{read_digits, minus-some, read-minus, read_plain}
 use Rattle.numbers.proofs.number.Goals as goal
 

@@ -1,6 +1,5 @@
 -- `numbers::read_digits` meets its contract. Assumes nothing.
-use Rattle.std.proofs.Common.{◌≡◌, sym, ◌∙◌, true, false, ℕ, ◌≤◌, arith, leb, pos, neg_ℤ, ◌-ℤ◌, length, w64, SFits, to_z, to_z-of_z}
-use borrow.Author.Tests.{not-false}
+use Rattle.std.proofs.Common.{◌≡◌, sym, ◌∙◌, false, ℕ, ◌≤◌, arith, leb, pos, neg_ℤ, ◌-ℤ◌, length, w64, SFits, to_z, to_z-of_z}
 use lib.IntN.{+ℤ_idl}
 use mir.Facts.{to_z_pos}
 use Rattle.whole.specs.Bounds.{within-neg, within-fits}

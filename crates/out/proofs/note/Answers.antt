@@ -1,8 +1,6 @@
 -- `out::note` meets its contract. The loop's invariant: the first i numbers are stored. Assumes nothing.
-use Rattle.std.proofs.Common.{rules, w64, to_z, of_z, lt-ltb, le-ltb, ◌≡◌, refl, ◌∙◌, List, [], ◌∷◌, ℕ, ◌≤◌, ◌<◌, arith, zero-add, add-one, ℤ, pos}
-use Rattle.std.proofs.Common.{length, take, get_or, length-set, take-suc, take_all, length-take-le, to_z-of_z}
-use borrow.Author.Rules.{sfits_of}
-use lib.Seq.{sets}
+use Rattle.std.proofs.Common.{rules, w64, to_z, of_z, lt-ltb, le-ltb, ◌≡◌, refl, ◌∙◌, [], ◌∷◌, ◌≤◌, ◌<◌, arith, zero-add, add-one, pos}
+use Rattle.std.proofs.Common.{length, take, get_or, length-set, take-suc, take_all, length-take-le}
 use Rattle.whole.specs.Stores.{sets_append}
 use Rattle.whole.specs.Over.{sets_over}
 use Rattle.out.specs.Noted.{noted}

@@ -1,7 +1,6 @@
 -- `reflex::some_not_inside` meets its contract: the law of searches, over the corners of the facet across. Assumes nothing.
 use Rattle.std.proofs.Common.{sym, ◌∙◌, arith}
 use Rattle.whole.specs.First.{yet_0, yet_more, any_hit, any_miss}
-use Rattle.reflex.specs.Rules.{is_not_inside}
 use Rattle.reflex.proofs.some_not_inside.Goals as goal
 
 pub is_not_inside-requires : goal.is_not_inside-requires

@@ -1,7 +1,6 @@
 -- `scan::first_outside` meets its contract: the law of searches, over the vertices. Assumes nothing.
 use Rattle.std.proofs.Common.{sym, ◌∙◌, arith}
 use Rattle.whole.specs.First.{yet_0, yet_more, yet_hit, yet_end}
-use Rattle.scan.specs.Rules.{is_outside}
 use Rattle.scan.proofs.first_outside.Goals as goal
 
 pub returns-then-is_outside : goal.returns-then-is_outside

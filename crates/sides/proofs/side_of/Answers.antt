@@ -1,7 +1,7 @@
 -- `sides::side_of` meets its contract. Assumes nothing.
 use Rattle.std.proofs.Common.{to_z-of_z}
 use borrow.Author.Rules.{sfits_of}
-use Rattle.space.specs.Vectors.{◌-◌}
+use Rattle.space.specs.Vectors.{◌-ᵛ◌}
 use Rattle.space.specs.Rows.{row-wide}
 use Rattle.points.specs.Points.{difference_of}
 use Rattle.sides.proofs.side_of.Goals as goal
@@ -15,7 +15,7 @@ determinant-requires c =
     }
 
 pub returns : goal.returns
-unfolding difference_of ◌-◌
+unfolding difference_of ◌-ᵛ◌
 returns c =
     let d = c.determinant in
     rw (

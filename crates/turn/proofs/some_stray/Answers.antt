@@ -1,7 +1,6 @@
 -- `turn::some_stray` meets its contract: the law of searches, over the corners. Assumes nothing.
 use Rattle.std.proofs.Common.{sym, ◌∙◌, arith}
 use Rattle.whole.specs.First.{yet_0, yet_more, any_hit, any_miss}
-use Rattle.turn.specs.Rules.{strays}
 use Rattle.turn.proofs.some_stray.Goals as goal
 
 pub strays-requires : goal.strays-requires
