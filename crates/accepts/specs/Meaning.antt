@@ -15,7 +15,7 @@ use Rattle.shape.specs.Flat.{flat_bent, flat_turn}
 use Rattle.shape.specs.Folds.{reflex_none}
 use Rattle.shape.specs.Outside.{inside, inside_outside}
 use Rattle.solid.specs.Tables.{Convex, Corner, OnPlane, volume}
-use Rattle.solid.specs.Theorems as Solid
+use Rattle.solid.proofs.Theorems as Solid
 use Rattle.stages.specs.Rules.{rules_to_turn}
 use Rattle.stages.specs.Known.{measured, in_order_after, measured-after}
 use Rattle.judge.specs.Judge.{rules, judged}

@@ -9,8 +9,8 @@ use Rattle.points.specs.Points.{vertices}
 use Rattle.answers.specs.Answer.{passed}
 use Rattle.flat.specs.Facet.{Measured}
 use Rattle.solid.specs.Tables.{Edge}
-use Rattle.solid.specs.Places.{next_place}
-use Rattle.solid.specs.Theorems as Solid
+use Rattle.solid.proofs.Places.{next_place}
+use Rattle.solid.proofs.Theorems as Solid
 use Rattle.bridge.specs.Surface.{tables_of, sized_tables}
 use Rattle.accepts.specs.Meaning.{is_measured, is_convex}
 use Rattle.height.specs.Height.{way, height}

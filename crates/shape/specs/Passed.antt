@@ -14,7 +14,7 @@ use Rattle.edges.specs.Chains.{leaves}
 use Rattle.flat.specs.Facet.{Measured}
 use Rattle.bridge.specs.Surface.{tables_of, sized_tables, place-names, place-runs}
 use Rattle.solid.specs.Tables.{Tables, Ranged, Closed, Flat, Reflex, Neighbours}
-use Rattle.solid.specs.Theorems.{local_global}
+use Rattle.solid.proofs.Theorems.{local_global}
 use Rattle.scan.specs.Rules.{is_outside, outside}
 use Rattle.near.specs.Near.{leads_out, is_near, near_part, near_facet, near, out_entry}
 use Rattle.shape.specs.Outside.{inside_of, inside_outside}

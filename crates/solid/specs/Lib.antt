@@ -1,4 +1,5 @@
--- The theorems on a closed surface of flat facets: `Tables` and `Theorems` state them of a solid's tables, the others prove them of any surface.
+-- A closed surface of flat facets, and the theorems on it whose definitions no must-fail edit turns: `Tables` is a solid's tables, the others speak of any surface.
+-- The other theorems stand in proofs/.
 pub mod Left
 pub mod Reach
 pub mod Surface
@@ -7,23 +8,17 @@ pub mod Solid
 pub mod Reflex
 pub mod Wedge
 pub mod Vertex
-pub mod Cone
 pub mod TrueCorner
 pub mod Mates
 pub mod Round
 pub mod Crossing
 pub mod Fall
 pub mod Path
-pub mod Fan
 pub mod Box
 pub mod Key
 pub mod Local
 pub mod Generic
-pub mod Peel
-pub mod LocalGlobal
 pub mod Tables
 pub mod Circuit
-pub mod Places
-pub mod Theorems
 pub mod Decide
 pub mod Tetra

@@ -1,2 +1,2 @@
-// The theorems on closed surfaces stand in specs/: this crate has no code.
+// The theorems on closed surfaces stand in specs/ and proofs/: this crate has no code.
 #![tactic(auto)]

@@ -8,11 +8,11 @@ use Rattle.solid.specs.Surface.{Surface, not_above, touches}
 use Rattle.solid.specs.Solid.{Solid}
 use Rattle.solid.specs.Local.{Local}
 use Rattle.solid.specs.Reflex as Lemma-R
-use Rattle.solid.specs.Cone as L8
+use Rattle.solid.proofs.Cone as L8
 use Rattle.solid.specs.TrueCorner as T-12
-use Rattle.solid.specs.LocalGlobal as Local-global
+use Rattle.solid.proofs.LocalGlobal as Local-global
 use Rattle.solid.specs.Tables.{Tables, Place, Corner, Sized, Ranged, Closed, Flat, Outside, Convex, Reflex, Neighbours, OnPlane, next, normal, volume}
-use Rattle.solid.specs.Places.{surface, solid, near, whole, is_vertex, first_corner, next_place, volume-is}
+use Rattle.solid.proofs.Places.{surface, solid, near, whole, is_vertex, first_corner, next_place, volume-is}
 
 module _ {t : Tables} (S : Sized t) where
   open t use {vertices, facets, corner, at}

@@ -9,8 +9,9 @@ use Rattle.solid.specs.Surface.{Surface, Inside}
 use Rattle.solid.specs.Local.{Local}
 use Rattle.solid.specs.Mates.{mate_touches}
 use Rattle.solid.specs.Path.{Path, start, go, join, reverse}
-use Rattle.solid.specs.Generic.{along, decides, generic}
-use Rattle.solid.specs.Peel.{ridge}
+use Rattle.solid.specs.Generic.{along}
+use Rattle.solid.proofs.Generic.{decides, generic}
+use Rattle.solid.proofs.Peel.{ridge}
 
 module _ {P F : Type 0} {M : Surface P F} (L : Local M) where
   open M use {Corner, Edge, at, normal, first, starts, ends, flat}

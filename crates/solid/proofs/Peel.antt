@@ -10,7 +10,7 @@ use Rattle.space.specs.Vectors.{◌·◌}
 use Rattle.solid.specs.Surface.{Surface}
 use Rattle.solid.specs.Near.{Near}
 use Rattle.solid.specs.Path.{Path, start, go, end, join, map}
-use Rattle.solid.specs.Fan.{fan}
+use Rattle.solid.proofs.Fan.{fan}
 use Rattle.solid.specs.Generic.{Generic}
 
 -- t + n < k says t + (n + 1) ≤ k

@@ -9,7 +9,8 @@ use Rattle.solid.specs.Surface.{Surface}
 use Rattle.solid.specs.Near.{Near}
 use Rattle.solid.specs.Wedge.{sides-bound}
 use Rattle.solid.specs.Round.{round}
-use Rattle.solid.specs.Fall.{Falls, one_fall}
+use Rattle.solid.specs.Fall.{Falls}
+use Rattle.solid.proofs.Fall.{one_fall}
 use Rattle.solid.specs.Path.{Path, start, go, end, join, reverse}
 
 module _ {P F : Type 0} {M : Surface P F} (N : Near M) (d : Vec ℤ) (v : P) where
