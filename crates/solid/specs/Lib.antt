@@ -1,5 +1,5 @@
--- A closed surface of flat facets, and the theorems on it whose definitions no must-fail edit turns: `Tables` is a solid's tables, the others speak of any surface.
--- The other theorems stand in proofs/.
+-- A closed surface of flat facets: `Tables` has a solid's tables, the others speak of any surface.
+-- The theorems that rest on a definition which a must-fail edit changes stand in proofs/.
 pub mod Left
 pub mod Reach
 pub mod Surface
