@@ -11,7 +11,7 @@ use Rattle.once_round.specs.Limits.{counted, not_few}
 use Rattle.left_of_all.specs.InOrder.{differ, refused, after_few, after_left, past_few, past_range}
 use Rattle.left_of_all.specs.InOrder.{past_left, past_wound, not_after_few, not_turns, not_after_left}
 use Rattle.once_round.specs.Second.{AtMostOne, One, Second, at_most_one, no_second, the_second}
-use Rattle.once_round.specs.Round.{theorem_5, one_far}
+use Rattle.once_round.proofs.Round.{theorem_5, one_far}
 
 module _ (points : List ℤ) where
   -- ---- the refusals

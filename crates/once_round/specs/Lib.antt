@@ -1,4 +1,4 @@
--- An outline by the rule sheet's words, and Theorem 5 of document 001: which outlines go once round, with every point left of every edge.
+-- An outline by the rule sheet's words, and what Theorem 5 of document 001 (proofs/Round.antt) rests on.
 pub mod Second
 pub mod Words
 pub mod Limits
@@ -6,4 +6,3 @@ pub mod Sides
 pub mod Hill
 pub mod Ring
 pub mod Greater
-pub mod Round

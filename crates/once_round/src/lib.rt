@@ -1,2 +1,2 @@
-// The words of an outline, and Theorem 5 on them, stand in specs/: this crate has no code.
+// The words of an outline, and Theorem 5 on them, stand in specs/ and proofs/: this crate has no code.
 #![tactic(auto)]
