@@ -1,4 +1,4 @@
--- Each number is printed as it is. Assumes nothing.
+-- Each number of the line is read back. Assumes nothing.
 use Rattle.lines.specs.Line.{number_read}
 use Rattle.answer_lines.specs.Lines.{places_of, printed}
 use Rattle.answer_lines.proofs.places.Goals as goal
@@ -9,5 +9,5 @@ returns c =
     let f = number_read _ c.number_of-3.ensures in
     let g = number_read _ c.number_of-2.ensures in
     let h = number_read _ c.number_of.ensures in
-    let both = printed (places_of c.args.a) (rw (e, f, g, h) at c.line4.ensures) in
-    record { line = both.0; prints = both.1 }
+    let (line, prints) = printed (places_of c.args.a) (rw (e, f, g, h) at c.line4.ensures) in
+    record { line = line; prints = prints }
