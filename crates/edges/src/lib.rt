@@ -61,7 +61,7 @@ fn last_edge(
     b: u16,
 ) -> usize
     requires leaving { Leaving corners.now begins.now edges.now heads.now }
-    requires a_lt_most_vertices { a < most_vertices }
+    requires vertex { a < most_vertices }
     ensures { result ≡ last_edge corners.now begins.now a b }
 {
     let mut q = index::head_at(heads, tables::wide(a));

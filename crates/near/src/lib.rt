@@ -15,7 +15,7 @@ fn near_part(
     f: usize,
 ) -> bool
     requires neighboured { Neighboured points.now corners.now begins.now edges.now heads.now }
-    requires f_bound { f < facets begins.now }
+    requires facet { f < facets begins.now }
     ensures { result ≡ near_facet points.now corners.now begins.now f }
 {
     let part = tables::part(corners, begins, f);

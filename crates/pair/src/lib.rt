@@ -30,7 +30,7 @@ fn times(
     b: u16,
 ) -> usize
     requires leaving { Leaving corners.now begins.now edges.now heads.now }
-    requires a_lt_most_vertices { a < most_vertices }
+    requires vertex { a < most_vertices }
     ensures { result ≡ times corners.now begins.now a b }
 {
     let mut n = 0;
@@ -52,7 +52,7 @@ fn unpaired(
     p: usize,
 ) -> bool
     requires indexed { Indexed corners.now begins.now edges.now heads.now }
-    requires p_in_bounds { p < length corners.now }
+    requires place { p < length corners.now }
     ensures { result ≡ unpaired corners.now begins.now p }
 {
     let a = corners[p];
@@ -72,7 +72,7 @@ fn is_unanswered(
     p: usize,
 ) -> bool
     requires indexed { Indexed corners.now begins.now edges.now heads.now }
-    requires p_in_bounds { p < length corners.now }
+    requires place { p < length corners.now }
     ensures { result ≡ unanswered corners.now begins.now p }
 {
     let q = index::across_at(edges, p);

@@ -58,7 +58,7 @@ fn part_across<'a>(
     q: usize,
 ) -> &'a [u16]
     requires crossed { Crossed corners.now begins.now edges.now heads.now }
-    requires q_in_bounds { q < length corners.now }
+    requires place { q < length corners.now }
     ensures { result.now ≡ facet_of corners.now begins.now (facet_across corners.now begins.now q) }
 {
     let other = index::across_at(edges, q);
@@ -75,7 +75,7 @@ fn first_reflex(
     f: usize,
 ) -> usize
     requires foldable { Foldable points.now corners.now begins.now edges.now heads.now }
-    requires f_bound { f < facets begins.now }
+    requires facet { f < facets begins.now }
     ensures { result ≡ first_below (is_reflex points.now corners.now begins.now f) (sides begins.now f) }
 {
     let part = tables::part(corners, begins, f);

@@ -17,7 +17,7 @@ fn round(
     p: usize,
 ) -> usize
     requires crossed { Crossed corners.now begins.now edges.now heads.now }
-    requires p_in_bounds { p < length corners.now }
+    requires place { p < length corners.now }
     ensures { result ≡ round_of corners.now begins.now p }
 {
     let q = index::across_at(edges, p);
@@ -33,7 +33,7 @@ fn broken(
     v: usize,
 ) -> bool
     requires crossed { Crossed corners.now begins.now edges.now heads.now }
-    requires v_lt_most_vertices { v < most_vertices }
+    requires vertex { v < most_vertices }
     ensures { result ≡ broken corners.now begins.now v }
 {
     let head = index::head_at(heads, v);
@@ -62,7 +62,7 @@ pub fn ring(
     n: usize,
 ) -> tables::Found
     requires crossed { Crossed corners.now begins.now edges.now heads.now }
-    requires n_le_most_vertices { n ≤ most_vertices }
+    requires vertices { n ≤ most_vertices }
     ensures { result ≡ place_of (ring n corners.now begins.now) }
 {
     let mut v = 0;

@@ -18,7 +18,7 @@ pub fn minor(a: i64, b: i64, c: i64, d: i64) -> i64
 
 // The sum of the products of two rows of three.
 pub fn dot(a: i64, b: i64, c: i64, x: i64, y: i64, z: i64) -> i64
-    requires a { a within broadest × b within broadest × c within broadest }
+    requires normal { a within broadest × b within broadest × c within broadest }
     requires difference { Difference x × Difference y × Difference z }
     ensures { Exact largest (vec a b c · vec x y z) result }
 {

@@ -10,7 +10,7 @@ ghost use Rattle.writer.specs.Answer.{written, buffer_after};
 // The tape of tables in order, written over the beginning of a buffer that has room.
 fn put_tape(points: &[i32], corners: &[u16], begins: &[u16], buffer: &mut [u8])
     requires in_order { InOrder points.now corners.now begins.now }
-    requires begins_in_bounds { length (tape points.now corners.now begins.now) ≤ length buffer.old }
+    requires room { length (tape points.now corners.now begins.now) ≤ length buffer.old }
     ensures { buffer.new ≡ over (tape points.now corners.now begins.now) buffer.old }
 {
     let v = points.len() / 3;
