@@ -10,7 +10,7 @@ use Rattle.tables.specs.Places.{In, home_is as Home-of, in_facet}
 use Rattle.index.specs.Entries.{home_at, across_at}
 use Rattle.edges.specs.Edge.{facet_across}
 use Rattle.edges.specs.Index.{small, home_is, home_at-in}
-use Rattle.pair.specs.Across.{Crossed, across_small, facet_across}
+use Rattle.pair.specs.Across.{Crossed, across_small, facet_across_lem}
 use Rattle.apart.specs.Apart.{flooded, is_apart, Reached, across_facet, some_facet, flooded-all, flooded-only}
 
 -- ---- reached by the index and the begins alone, so that a visit needs no corners
@@ -41,7 +41,7 @@ module _ {corners begins : List ℕ} {edges : List (List ℕ)} {heads : List ℕ
   in_run l = omega (arith, C.indexed.tables.laid.finish)
 
   across_below : (p : ℕ) → p < run_length begins → facet_across_at edges p < facets begins
-  across_below p l = rw (facet_across C (in_run l)) (across_facet C.indexed.tables.laid C.paired p (in_run l))
+  across_below p l = rw (facet_across_lem C (in_run l)) (across_facet C.indexed.tables.laid C.paired p (in_run l))
 
 -- ---- the visit of a facet
 
@@ -176,7 +176,7 @@ module _ {corners begins : List ℕ} {edges : List (List ℕ)} {heads marks queu
   told : SameArcs (run_length begins) (home_at edges) (facet_across_at edges) (home_of begins) (facet_across corners begins)
   told = record {
     starts = λ p l. home_is R.crossed.indexed (in_run R.crossed l);
-    ends = λ p l. facet_across R.crossed (in_run R.crossed l);
+    ends = λ p l. facet_across_lem R.crossed (in_run R.crossed l);
   }
 
   pub reaching_end : tail ≤ head → ReachMarks corners begins marks

@@ -3,7 +3,7 @@ use Rattle.std.specs.Prelude.{◌≡◌, Bool, List, ◌↔◌, ℕ, ℤ, length
 use Rattle.std.proofs.Math.Path.{refl, ap}
 use Rattle.std.proofs.Common.{sym, ◌∙◌}
 use Rattle.std.proofs.Math.Bool.{true, false, cond, true≢false}
-use Rattle.std.proofs.Math.Logic.{Iff·trans, Iff·and, Iff·rfl}
+use Rattle.std.proofs.Math.Logic.Iff
 use Rattle.whole.specs.First.{Lowest}
 use Rattle.once_round.specs.Words.{count, few, out_of_range, not_left, far, wound, Counted, Limits, LocallyConvex, AllLeft}
 use Rattle.outline.specs.Outline.{verdict, judged_turns, judged_outline}
@@ -32,21 +32,21 @@ module _ (points : List ℤ) where
   -- "2 RANGE, first point" with a coordinate outside its limits
   pub range-means : (i : ℕ) → (judged_outline points ≡ verdict 2 i) ↔ (Counted points × Lowest (out_of_range points) (count points) i)
   range-means i =
-      Iff·trans (past_few points 2 i tt)
-      (Iff·and Iff·rfl (refused 2 (out_of_range points) (count points) (judged_turns points) i (not_turns points 2 i tt tt tt)))
+      Iff.trans (past_few points 2 i tt)
+      (Iff.and Iff.rfl (refused 2 (out_of_range points) (count points) (judged_turns points) i (not_turns points 2 i tt tt tt)))
 
   -- "25 LEFT, first point whose turn isn't left"
   pub left-means : (i : ℕ) → (judged_outline points ≡ verdict 25 i) ↔ (Limits points × Lowest (not_left points) (count points) i)
   unfolding judged_turns
   left-means i =
-      Iff·trans (past_range points 25 i tt tt)
-      (Iff·and Iff·rfl (refused 25 (not_left points) (count points) (after_left points) i (not_after_left points 25 i tt tt)))
+      Iff.trans (past_range points 25 i tt tt)
+      (Iff.and Iff.rfl (refused 25 (not_left points) (count points) (after_left points) i (not_after_left points 25 i tt tt)))
 
   -- "26 WOUND, second far point counting from point 0"
   pub wound-means : (i : ℕ) → (judged_outline points ≡ verdict 26 i) ↔ (LocallyConvex points × Second (far points) (count points) i)
   wound-means i =
-      Iff·trans (past_left points 26 i tt tt tt)
-      (Iff·and Iff·rfl (Iff·trans (refused 26 (wound points) (count points) (verdict 0 (count points)) i (differ tt))
+      Iff.trans (past_left points 26 i tt tt tt)
+      (Iff.and Iff.rfl (Iff.trans (refused 26 (wound points) (count points) (verdict 0 (count points)) i (differ tt))
       (the_second (far points) (count points) i)))
 
   -- ---- acceptance
@@ -70,12 +70,12 @@ module _ (points : List ℤ) where
 
   -- "Acceptance is proved equal to the meaning", and "Acceptance gives 0 and the count"
   pub accepted : (i : ℕ) → (judged_outline points ≡ verdict 0 i) ↔ ((Limits points × AllLeft points) × (i ≡ count points))
-  accepted i = Iff·trans (tests i) (Iff·and (theorem_5 points) Iff·rfl)
+  accepted i = Iff.trans (tests i) (Iff.and (theorem_5 points) Iff.rfl)
 
   -- "At each point the turn .. is strictly left, and exactly one point is a far point"
   pub accepted-far : (i : ℕ)
       → (judged_outline points ≡ verdict 0 i) ↔ ((LocallyConvex points × One (far points) (count points)) × (i ≡ count points))
-  accepted-far i = Iff·trans (tests i) (Iff·and (one_far points) Iff·rfl)
+  accepted-far i = Iff.trans (tests i) (Iff.and (one_far points) Iff.rfl)
 
   -- the same, for a caller that looks at the number alone
   pub accepted-number : ((judged_outline points).number ≡ 0) ↔ (Limits points × AllLeft points)

@@ -132,5 +132,5 @@ module _ {corners begins : List ℕ} {edges : List (List ℕ)} {heads : List ℕ
   across_small = small C.indexed (across_at-below C.indexed l)
 
   -- the facet across
-  pub facet_across : home_at edges (across_at edges p) ≡ facet_across corners begins p
-  facet_across = home_is C.indexed (across_at-below C.indexed l) ∙ ap (home_of begins) (across_at-is C.indexed l)
+  pub facet_across_lem : home_at edges (across_at edges p) ≡ facet_across corners begins p
+  facet_across_lem = home_is C.indexed (across_at-below C.indexed l) ∙ ap (home_of begins) (across_at-is C.indexed l)

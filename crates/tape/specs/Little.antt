@@ -106,7 +106,7 @@ pub read-32 : {x : ℤ} → mag x < 2 ^ 31 → to_z w32 (of_z w32 x) ≡ x
 read-32 h = to_z-of_z {w = w32} (record { sfits = h })
 
 pub read_back : {x : ℤ} → SFits w16 x → to_z w32 (of_z w32 x) ≡ x
-read_back h = to_z-of_z (sfits_widen {w = w16} tt h)
+read_back h = to_z-of_z {w = w32} (sfits_widen {w = w16} {w' = w32} tt h)
 
 pub read_fits : {x : ℤ} → SFits w16 x → SFits w16 (to_z w32 (of_z w32 x))
 read_fits h = rw (read_back h) h

@@ -6,7 +6,7 @@ use Rattle.edges.proofs.cross.Goals as goal
 pub last_edge-q-requires : goal.last_edge-q-requires
 last_edge-q-requires c =
     let i = c.loop-p.invariant in
-    (crossing_leaving i, crossing_end i (omega arith) c.end_at-end.ensures)
+    record { leaving = crossing_leaving i; vertex = crossing_end i (omega arith) c.end_at-end.ensures }
 
 pub overflow_cast-edges : goal.overflow_cast-edges
 overflow_cast-edges c =

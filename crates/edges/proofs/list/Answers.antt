@@ -16,7 +16,7 @@ overflow_cast-edges c =
     let i = c.loop-p.invariant in
     omega (arith, (home_now i (omega arith) c.home_on-f.ensures).facet, i.tables.laid.most)
 
--- the bounds-heads-v that place p leaves
+-- the vertex that place p leaves
 pub bounds-heads-v : goal.bounds-heads-v
 bounds-heads-v c =
     rw c.wide-v.ensures.is (vertex_small c.loop-p.invariant (omega arith))
@@ -38,20 +38,11 @@ home_on-f-requires c = c.loop-p.invariant.at.facet
 pub next_in-requires : goal.next_in-requires
 next_in-requires c = home_now c.loop-p.invariant (omega arith) c.home_on-f.ensures
 
-pub offset_bounds-heads-v : goal.offset_bounds-heads-v
-offset_bounds-heads-v c = omega (arith, bounds-heads-v c)
-
 pub offset_bounds-edges-p : goal.offset_bounds-edges-p
 offset_bounds-edges-p c = omega (arith, bounds-edges-p c)
 
 pub overflow_cast-heads : goal.overflow_cast-heads
 overflow_cast-heads c = omega (arith, bounds-edges-p c)
-
-pub offset_bounds-heads-v-in-loop-p : goal.offset_bounds-heads-v-in-loop-p
-offset_bounds-heads-v-in-loop-p c = omega (arith, bounds-heads-v c.before)
-
-pub bounds-heads-v-in-loop-p : goal.bounds-heads-v-in-loop-p
-bounds-heads-v-in-loop-p c = bounds-heads-v c.before
 
 pub returns : goal.returns
 returns c = listed c.loop-p.invariant (omega arith)

@@ -1,0 +1,10 @@
+-- `pair::times` meets its contract: the count along a chain, at the test that the edge ends at b. Assumes nothing.
+use Rattle.edges.specs.Edge.{is_edge}
+use Rattle.edges.specs.Along.{Counting}
+use Rattle.pair.proofs.times.Given as goal
+
+abbrev pub invariant-loop-q : goal.invariant-loop-q
+invariant-loop-q l = Counting l.corners l.begins l.edges l.heads l.a (is_edge l.corners l.begins l.a l.b) l.n l.q
+
+abbrev pub decreases-loop-q : goal.decreases-loop-q
+decreases-loop-q l = l.q

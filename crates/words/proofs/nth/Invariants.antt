@@ -1,0 +1,11 @@
+-- `words::nth` meets its contract. The loop's invariant: word number i has been found. Assumes nothing.
+use Rattle.std.proofs.Common.{◌≡◌, ◌-◌, ◌≤◌}
+use Rattle.words.specs.Runs.{among}
+use Rattle.words.specs.Scan.{nth_of}
+use Rattle.words.proofs.nth.Given as goal
+
+abbrev pub invariant-loop-i : goal.invariant-loop-i
+invariant-loop-i l = (l.i ≤ l.k) × (l.at ≡ nth_of (among l.set) l.text l.i)
+
+abbrev pub decreases-loop-i : goal.decreases-loop-i
+decreases-loop-i l = l.k - l.i
