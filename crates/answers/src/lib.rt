@@ -6,14 +6,14 @@ ghost use Rattle.answers.specs.declared.Fault.TheVariants.{None};
 ghost use Rattle.answers.specs.Answer.{accepted, fault, refused, passed, of_length, at_offset, answer_of};
 
 // The first rule that tables break, by its number, and its first place; or none.
-#[derive(Drop)]
+#[derive(Clone, Copy)]
 pub enum Fault {
     Breaks(u16, usize, usize),
     None,
 }
 
 // A number and three places.
-#[derive(Drop)]
+#[derive(Clone, Copy)]
 pub struct Answer {
     pub number: u16,
     pub first: usize,

@@ -11,7 +11,7 @@ use Rattle.index.specs.Entries.{home_at, across_at}
 use Rattle.edges.specs.Edge.{facet_across}
 use Rattle.edges.specs.Index.{small, home_is, home_at-in}
 use Rattle.pair.specs.Across.{Crossed, across_small, facet_across_lem}
-use Rattle.apart.specs.Apart.{flooded, is_apart, Reached, across_facet, some_facet, flooded-all, flooded-only}
+use Rattle.apart.specs.Apart.{flooded, is_apart, across_facet, some_facet, flooded-all, flooded-only}
 
 -- ---- reached by the index and the begins alone, so that a visit needs no corners
 

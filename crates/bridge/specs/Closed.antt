@@ -157,7 +157,7 @@ module _ (points : List ℤ) {corners begins : List ℕ} (S : Sound (vertices po
     P : Paired corners begins
     P = paired_if matched
 
-    stepped : {f g v p q : ℕ} → Names corners begins f v p → Around (Edge T) v f g → Names corners begins g v q → RoundTo corners begins p q
+    stepped : {f v p g q : ℕ} → Names corners begins f v p → Around (Edge T) v f g → Names corners begins g v q → RoundTo corners begins p q
     unfolding iterate round_of
     stepped n here m = (0, single.repeats _ _ n.below m.below (n.facet ∙ sym m.facet) (n.starts ∙ sym m.starts))
     stepped n (hop a o i) m =

@@ -1,25 +1,33 @@
 // The stored cases of the judge and of the outline judge.
 #![tactic(auto)]
 
+use std::io;
+use std::io::Write;
+
 // Room for the longest outline.
 const OUTLINE: usize = 8200;
 
 // J: the tables and no more.
-pub fn judge_case(points: &[i32], corners: &[u16], begins: &[u16]) {
+pub fn judge_case<W: Write>(
+    writer: &mut W,
+    points: &[i32],
+    corners: &[u16],
+    begins: &[u16],
+) -> io::Result<()> {
     let mut out = [0i64; 3];
     let number = exports::solid_judge(points, corners, begins, &mut out);
-    case_show::show_answer(number, &out);
-    io::write_all(1, b"\n");
+    case_show::show_answer(writer, number, &out)?;
+    writer.write_all(b"\n")
 }
 
 // O: the points of an outline. Where the text goes on.
-pub fn outline_case(text: &[u8], from: usize) -> usize {
+pub fn outline_case<W: Write>(writer: &mut W, text: &[u8], from: usize) -> io::Result<usize> {
     let mut at = from;
     let mut points = [0i32; OUTLINE];
     let n = case_lists::fill_points(text, &mut at, &mut points);
     let mut out = [0i64; 1];
     let number = exports::solid_outline(&points[..n], &mut out);
-    case_show::show_answer(number, &out);
-    io::write_all(1, b"\n");
-    at
+    case_show::show_answer(writer, number, &out)?;
+    writer.write_all(b"\n")?;
+    Ok(at)
 }

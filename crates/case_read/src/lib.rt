@@ -1,58 +1,52 @@
 // The stored cases of the tape's reader.
 #![tactic(auto)]
 
+use std::io;
+use std::io::Write;
+
 // Room for the longest table.
 const TABLE: usize = 65600;
 
 // Prints as many entries of each table as the text says. Where the text goes on.
-fn show_tables(text: &[u8], from: usize, points: &[i32], corners: &[u16], begins: &[u16]) -> usize {
+fn show_tables<W: Write>(
+    writer: &mut W,
+    text: &[u8],
+    from: usize,
+    points: &[i32],
+    corners: &[u16],
+    begins: &[u16],
+) -> io::Result<usize> {
     let mut at = from;
-    case_show::show_points(
-        points,
-        case_numbers::next_natural(text, &mut at, points.len()),
-    );
-    case_show::show_shorts(
-        corners,
-        case_numbers::next_natural(text, &mut at, corners.len()),
-    );
-    case_show::show_shorts(
-        begins,
-        case_numbers::next_natural(text, &mut at, begins.len()),
-    );
-    io::write_all(1, b"\n");
-    at
+    let p = case_numbers::next_natural(text, &mut at, points.len());
+    case_show::show_points(writer, points, p)?;
+    let c = case_numbers::next_natural(text, &mut at, corners.len());
+    case_show::show_shorts(writer, corners, c)?;
+    let b = case_numbers::next_natural(text, &mut at, begins.len());
+    case_show::show_shorts(writer, begins, b)?;
+    writer.write_all(b"\n")?;
+    Ok(at)
 }
 
-// Reads, then prints the answer and the tables. Where the text goes on.
-fn read_into(
+// R: after the tape the tables' lengths. They are full of 77 before, so that what is not written shows. Reads, then prints the answer and the
+// tables. Where the text goes on.
+pub fn read_case<W: Write>(
+    writer: &mut W,
     text: &[u8],
     from: usize,
     tape: &[u8],
-    points: &mut [i32],
-    corners: &mut [u16],
-    begins: &mut [u16],
-) -> usize {
-    let mut out = [0i64; 3];
-    let number = exports::solid_read_tape(tape, points, corners, begins, &mut out);
-    case_show::show_answer(number, &out);
-    show_tables(text, from, points, corners, begins)
-}
-
-// R: after the tape the tables' lengths. They are full of 77 before, so that what is not written shows. Where the text goes on.
-pub fn read_case(text: &[u8], from: usize, tape: &[u8]) -> usize {
+) -> io::Result<usize> {
     let mut at = from;
     let p = case_numbers::next_natural(text, &mut at, TABLE);
     let c = case_numbers::next_natural(text, &mut at, TABLE);
     let b = case_numbers::next_natural(text, &mut at, TABLE);
-    let mut points = [77i32; TABLE];
-    let mut corners = [77u16; TABLE];
-    let mut begins = [77u16; TABLE];
-    read_into(
-        text,
-        at,
-        tape,
-        &mut points[..p],
-        &mut corners[..c],
-        &mut begins[..b],
-    )
+    let mut point_room = [77i32; TABLE];
+    let points = &mut point_room[..p];
+    let mut corner_room = [77u16; TABLE];
+    let corners = &mut corner_room[..c];
+    let mut begin_room = [77u16; TABLE];
+    let begins = &mut begin_room[..b];
+    let mut out = [0i64; 3];
+    let number = exports::solid_read_tape(tape, points, corners, begins, &mut out);
+    case_show::show_answer(writer, number, &out)?;
+    show_tables(writer, text, at, points, corners, begins)
 }

@@ -1,11 +1,16 @@
 // Runs the stored cases: each line of standard input is one.
 #![tactic(auto)]
 
+use std::io;
+
 // Room for their text.
 const TEXT: usize = 400000;
 
-fn main() {
+fn main(rt: HostRuntime) -> io::Result<()> {
     let mut text = [0u8; TEXT];
-    let n = io::read_full(0, &mut text);
-    cases::run(&text[..n]);
+    let taken = streams::read_all(&mut rt.reader(), &mut text);
+    if let Some(error) = taken.failed {
+        return Err(error);
+    }
+    cases::run(&mut io::writer(&rt), &text[..taken.len])
 }

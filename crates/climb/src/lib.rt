@@ -10,7 +10,7 @@ ghost use Rattle.climb.specs.Ready.{Ready};
 ghost use Rattle.climb.specs.Climb.{Climbs, Climbed};
 
 // The walk as it stands: its direction, the present vertex with its height, and the moves so far.
-#[derive(Drop)]
+#[derive(Clone, Copy)]
 pub struct Standing {
     pub direction: direction::Direction,
     pub spot: height::Spot,

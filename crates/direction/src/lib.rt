@@ -5,7 +5,7 @@ ghost use Rattle.std.specs.Prelude.{◌≡◌};
 ghost use Rattle.direction.specs.Direction.{direction, axes, is_steep, is_wrong};
 
 // A direction of three whole numbers.
-#[derive(Drop)]
+#[derive(Clone, Copy)]
 pub struct Direction {
     pub x: i32,
     pub y: i32,

@@ -33,7 +33,7 @@ fn height(points: &[i32], direction: direction::Direction, v: usize) -> i64
 }
 
 // A vertex and its height.
-#[derive(Drop)]
+#[derive(Clone, Copy)]
 pub struct Spot {
     pub vertex: u16,
     pub height: i64,

@@ -1,6 +1,6 @@
 // Judges the solid of the tape on standard input, and prints one line: number and three places.
 #![tactic(auto)]
 
-fn main() {
-    run::judge_input();
+fn main(rt: HostRuntime) -> Result<(), run::Fault<'static>> {
+    run::judge_input(&rt)
 }

@@ -1,6 +1,6 @@
 // The judging program, run on a solid that is a star.
 #![tactic(auto)]
 
-fn main() {
-    run::judge_input();
+fn main(rt: HostRuntime) -> Result<(), run::Fault<'static>> {
+    run::judge_input(&rt)
 }

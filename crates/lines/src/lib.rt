@@ -36,7 +36,7 @@ fn put_line(buf: &mut [u8], at: usize, numbers: &[i64]) -> usize
 const ROOM: usize = 147;
 
 // A line: its bytes are the first `len`, and the others are 0.
-#[derive(Drop)]
+#[derive(Clone, Copy)]
 pub struct Line {
     pub bytes: [u8; ROOM],
     pub len: usize,

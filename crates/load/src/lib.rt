@@ -7,7 +7,7 @@ ghost use Rattle.reader.specs.Answer.{points_of, corners_of, begins_of};
 ghost use Rattle.load.specs.Loaded.{loaded_of};
 
 // How many entries of each table are the tape's; or a refusal's number and byte offset, and then none are.
-#[derive(Drop)]
+#[derive(Clone, Copy)]
 pub struct Loaded {
     pub number: u16,
     pub offset: usize,

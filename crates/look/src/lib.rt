@@ -61,6 +61,7 @@ fn look_end(tape: &[u8], at: usize, v: usize, f: usize) -> tape::Next
 }
 
 // What stands at an offset, where v points and f facets with c corners came before.
+#[tactic(auto, unfolding(tape::specs::Reading::look_at))]
 pub fn look(tape: &[u8], at: usize, v: usize, f: usize, c: usize) -> tape::Next
     requires { c ≤ most_corners }
     ensures { result ≡ look_at tape.now at v f c }

@@ -8,7 +8,7 @@ ghost use Rattle.numbers.specs.Number.{is_digit, are_digits, has_minus, decimal}
 ghost use Rattle.numbers.specs.Reading.{most, kept, read_digits, read_of};
 
 // What reading a word as a number finds.
-#[derive(Drop)]
+#[derive(Clone, Copy)]
 pub enum Read {
     Number(i64),
     Malformed,

@@ -7,7 +7,7 @@ ghost use Rattle.once_round.specs.Words.{few};
 ghost use Rattle.outline.specs.Outline.{judged_turns, judged_outline};
 
 // The answer to an outline: the sheet's number, and the count or a point's number.
-#[derive(Drop)]
+#[derive(Clone, Copy)]
 pub struct Verdict {
     pub number: u16,
     pub place: usize,

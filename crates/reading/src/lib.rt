@@ -11,7 +11,7 @@ pub const CORNER_ROOM: usize = tables::MOST_CORNERS;
 pub const BEGIN_ROOM: usize = tables::MOST_FACETS + 1;
 
 // A reader's answer: V, F and corners, or a refusal's number and byte offset.
-#[derive(Drop)]
+#[derive(Clone, Copy)]
 pub enum Reading {
     Read(usize, usize, usize),
     Refused(u16, usize),

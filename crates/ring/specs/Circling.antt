@@ -43,7 +43,8 @@ module _ {corners begins : List ℕ} {edges : List (List ℕ)} {heads : List ℕ
       pub first_small : 0 < head_at heads v → head_at heads v - 1 < most_corners
       first_small h = link_small begun.on h
 
-      pub circling_0 : 0 < head_at heads v → Circling corners begins edges heads v (head_at heads v - 1) (head_at heads v - 1) (back_at edges (head_at heads v - 1))
+      pub circling_0 : 0 < head_at heads v
+          → Circling corners begins edges heads v (head_at heads v - 1) (head_at heads v - 1) (back_at edges (head_at heads v - 1))
       unfolding iterate
       circling_0 h = record {
         crossed = C;

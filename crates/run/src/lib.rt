@@ -1,8 +1,15 @@
 // The two programs: each reads a tape and what else it needs, and prints one line. Where the world fails them (a file that can't be opened,
-// a read or a write that fails) they say so on standard error and print no line.
+// a read or a write that fails) they print no line and return what failed, which `main` says on standard error.
 #![tactic(auto)]
 
+ghost use Rattle.std.specs.Prelude.{◌≡◌, ◌≤◌, ℕ, length, take, IfOk, OnOk, OnErr};
+ghost use Rattle.std.specs.Io.KnownBytes.{Appends};
 ghost use Rattle.whole.specs.Begin.{Begin};
+
+use std::error::Error;
+use std::io::{ErrorKind, Write};
+use std::rt::Files;
+use std::{fmt, fs, io};
 
 // One byte more than the longest tape has: "the answer is already sure" (`judge_cut`, `walk-cut`, crate printed).
 const TAPE: usize = 7 * tables::MOST_VERTICES + tables::MOST_FACETS + 2 * tables::MOST_CORNERS + 6;
@@ -10,71 +17,108 @@ const TAPE: usize = 7 * tables::MOST_VERTICES + tables::MOST_FACETS + 2 * tables
 // One byte more than the input that is split into words, which settles the line (`input_cut`, crate printed).
 const INPUT: usize = input::LONGEST + 1;
 
+// What failed in the world, and how.
+#[derive(Drop)]
+pub struct Fault<'a> {
+    what: &'a str,
+    error: io::Error,
+}
+
+impl fmt::Display for Fault<'_> {
+    fn fmt<W: fmt::Write>(&self, f: &mut fmt::Formatter<W>) -> fmt::Result {
+        let what = self.what;
+        let error = self.error;
+        write!(f, "{what}: {error}")
+    }
+}
+
+// As `main` says it.
+impl fmt::Debug for Fault<'_> {
+    fn fmt<W: fmt::Write>(&self, f: &mut fmt::Formatter<W>) -> fmt::Result {
+        write!(f, "{self}")
+    }
+}
+
+impl Error for Fault<'_> {}
+
+// How many bytes were read where no read failed.
+fn len_of<'a>(what: &'a str, taken: streams::Taken) -> Result<usize, Fault<'a>>
+    ensures { IfOk result (λ n. n ≡ taken.len) }
+{
+    match taken.failed {
+        None => Ok(taken.len),
+        Some(error) => Err(Fault { what, error }),
+    }
+}
+
 // Prints the bytes of a line.
-pub fn print(line: lines::Line)
+pub fn print<W: Write>(writer: &mut W, line: lines::Line) -> io::Result<()>
     requires { Begin line.len line.bytes }
+    ensures ok { OnOk result (Appends (W.contents writer.old) (W.contents writer.new) (take line.len line.bytes)) }
+    ensures err { OnErr result ((n : ℕ) × (n ≤ line.len)
+        × Appends (W.contents writer.old) (W.contents writer.new) (take n line.bytes)) }
 {
     let bytes = line.bytes;
     let len = line.len;
-    if !streams::write_all(libc::STDOUT_FILENO, &bytes[..len]) {
-        os::fail(b"standard output");
+    streams::write_all(writer, &bytes[..len])
+}
+
+// Prints a line on standard output.
+fn put<R: Print>(rt: &R, line: lines::Line) -> Result<(), Fault<'static>>
+    requires { Begin line.len line.bytes }
+{
+    match print(&mut io::writer(rt), line) {
+        Ok(()) => Ok(()),
+        Err(error) => Err(Fault {
+            what: "standard output",
+            error,
+        }),
     }
 }
 
 // Reads standard input, as much as there is room for.
-fn read_input(buf: &mut [u8]) -> streams::Taken
-    ensures { Begin result.len buf.new }
+fn read_input<R: Input>(rt: &R, buf: &mut [u8]) -> Result<usize, Fault<'static>>
+    ensures { IfOk result (λ n. Begin n buf.new) }
 {
-    let taken = streams::read_all(libc::STDIN_FILENO, buf);
-    if taken.failed {
-        os::fail(b"standard input");
+    len_of("standard input", streams::read_all(&mut rt.reader(), buf))
+}
+
+// A file's name as text, which the library asks for.
+fn text_of(name: &[u8]) -> Result<&str, Fault<'static>> {
+    match std::str::from_utf8(name) {
+        Ok(text) => Ok(text),
+        Err(_) => Err(Fault {
+            what: "the file's name",
+            error: io::Error::new(ErrorKind::InvalidInput, "not UTF-8"),
+        }),
     }
-    taken
 }
 
 // Reads a file, as much as there is room for; one that isn't there counts as empty.
-fn read_file(name: &[u8], buf: &mut [u8]) -> streams::Taken
-    ensures { Begin result.len buf.new }
+fn read_file<'a, R: Files>(rt: &R, name: &'a [u8], buf: &mut [u8]) -> Result<usize, Fault<'a>>
+    ensures { IfOk result (λ n. Begin n buf.new) }
 {
-    let file = os::open_read(name);
-    if file < 0 {
-        let failed = os::errno() != libc::ENOENT;
-        if failed {
-            os::fail(name);
-        }
-        return streams::Taken { len: 0, failed };
+    let what = text_of(name)?;
+    match fs::open(rt, what) {
+        Ok(mut file) => len_of(what, streams::read_all(&mut file, buf)),
+        Err(e) if e.kind() == ErrorKind::NotFound => Ok(0),
+        Err(error) => Err(Fault { what, error }),
     }
-    let taken = streams::read_all(file, buf);
-    if taken.failed {
-        os::fail(name);
-    }
-    libc::close(file);
-    taken
 }
 
 // Judges the solid of the tape on standard input, and prints number and three places.
-pub fn judge_input() {
+pub fn judge_input<R: Input + Print>(rt: &R) -> Result<(), Fault<'static>> {
     let mut tape = [0u8; TAPE];
-    let taken = read_input(&mut tape);
-    let n = taken.len;
-    if !taken.failed {
-        print(programs::judge_line(&tape[..n]));
-    }
+    let n = read_input(rt, &mut tape)?;
+    put(rt, programs::judge_line(&tape[..n]))
 }
 
 // Walks on the solid of the tape in a file, from the start and in the direction on standard input, and prints number, vertex,
 // height, moves.
-pub fn walk_input(name: &[u8]) {
+pub fn walk_input<'a, R: Files + Input + Print>(rt: &R, name: &'a [u8]) -> Result<(), Fault<'a>> {
     let mut tape = [0u8; TAPE];
-    let taken = read_file(name, &mut tape);
-    let n = taken.len;
-    if taken.failed {
-        return;
-    }
+    let n = read_file(rt, name, &mut tape)?;
     let mut input = [0u8; INPUT];
-    let words = read_input(&mut input);
-    let m = words.len;
-    if !words.failed {
-        print(programs::walk_line(&tape[..n], &input[..m]));
-    }
+    let m = read_input(rt, &mut input)?;
+    put(rt, programs::walk_line(&tape[..n], &input[..m]))
 }

@@ -7,7 +7,7 @@ ghost use Rattle.points.specs.Points.{Vertex};
 ghost use Rattle.sides.specs.Sides.{Three, normal_of, sign, side_of, in_line, is_left, is_inside, is_on};
 
 // Where a point lies against a plane.
-#[derive(Drop)]
+#[derive(Clone, Copy)]
 pub enum Side {
     Inside,
     On,

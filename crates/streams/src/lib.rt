@@ -1,87 +1,85 @@
 // Reading and writing that go on where a signal interrupts them, and tell where they fail.
 #![tactic(auto)]
 
+ghost use Rattle.std.specs.Prelude.{◌≡◌, ◌<◌, ◌≤◌, ℕ, length, take, None, OnOk, OnErr};
+ghost use Rattle.std.specs.Io.{ReadsAtMost, WritesAtMost};
+ghost use Rattle.std.specs.Io.KnownBytes.{Appends, Consumes, IsAtEnd, ReadConsumes, WriteAppends};
 ghost use Rattle.whole.specs.Begin.{Begin};
 
-// How often a call that a signal interrupts is made again: a function ends, and no process lives that long.
-const TRIES: usize = 18446744073709551615;
+use std::io;
+use std::io::{ErrorKind, Read, Write};
 
-// How many bytes were read, and whether a read failed.
+// How many bytes were read, and how a read failed.
 #[derive(Drop)]
 pub struct Taken {
     pub len: usize,
-    pub failed: bool,
+    pub failed: Option<io::Error>,
 }
 
-// Whether a call that answered so was interrupted by a signal.
-fn is_interrupted(answer: isize) -> bool {
-    if answer < 0 {
-        return os::errno() == libc::EINTR;
-    }
-    false
-}
-
-// One read, made again where a signal interrupts it: below 0 where it fails.
-fn read_on(fd: i32, buf: &mut [u8]) -> isize {
-    let mut got = libc::read(fd, buf);
-    let mut i = 0;
-    while i < TRIES {
-        if !is_interrupted(got) {
-            return got;
+// One read, made again where a signal interrupts it.
+fn read_on<R: Read>(reader: &mut R, buf: &mut [u8]) -> io::Result<usize>
+    ensures bound { ReadsAtMost result buf.new }
+    ensures bytes { ReadConsumes (R.remaining reader.old) (R.remaining reader.new) result buf.new }
+{
+    for _ in 0..u64::MAX {
+        match reader.read(buf) {
+            Ok(n) => return Ok(n),
+            Err(e) if e.kind() == ErrorKind::Interrupted => {}
+            Err(e) => return Err(e),
         }
-        got = libc::read(fd, buf);
-        i += 1;
     }
-    got
+    reader.read(buf)
 }
 
-// One write, made again where a signal interrupts it: below 0 where it fails.
-fn write_on(fd: i32, buf: &[u8]) -> isize {
-    let mut put = libc::write(fd, buf);
-    let mut i = 0;
-    while i < TRIES {
-        if !is_interrupted(put) {
-            return put;
+// One write, made again where a signal interrupts it.
+fn write_on<W: Write>(writer: &mut W, buf: &[u8]) -> io::Result<usize>
+    ensures bound { WritesAtMost result buf.now }
+    ensures bytes { WriteAppends (W.contents writer.old) (W.contents writer.new) result buf.now }
+{
+    for _ in 0..u64::MAX {
+        match writer.write(buf) {
+            Ok(n) => return Ok(n),
+            Err(e) if e.kind() == ErrorKind::Interrupted => {}
+            Err(e) => return Err(e),
         }
-        put = libc::write(fd, buf);
-        i += 1;
     }
-    put
+    writer.write(buf)
 }
 
 // Reads until buf is full, the input ends or a read fails.
-pub fn read_all(fd: i32, buf: &mut [u8]) -> Taken
-    ensures { Begin result.len buf.new }
+pub fn read_all<R: Read>(reader: &mut R, buf: &mut [u8]) -> Taken
+    ensures begin { Begin result.len buf.new }
+    ensures bytes { Consumes (R.remaining reader.old) (R.remaining reader.new) (take result.len buf.new) }
+    ensures end { result.failed ≡ None → result.len < length buf.new → IsAtEnd (R.remaining reader.new) }
+{
+    let mut len = 0;
+    while len < buf.len() {
+        match read_on(reader, &mut buf[len..]) {
+            Ok(0) => return Taken { len, failed: None },
+            Ok(more) => len += more,
+            Err(e) => {
+                return Taken {
+                    len,
+                    failed: Some(e),
+                };
+            }
+        }
+    }
+    Taken { len, failed: None }
+}
+
+// Writes all of buf, or its beginning where a write fails or takes nothing.
+pub fn write_all<W: Write>(writer: &mut W, buf: &[u8]) -> io::Result<()>
+    ensures ok { OnOk result (Appends (W.contents writer.old) (W.contents writer.new) buf.now) }
+    ensures err { OnErr result ((n : ℕ) × (n ≤ length buf.now)
+        × Appends (W.contents writer.old) (W.contents writer.new) (take n buf.now)) }
 {
     let mut done = 0;
     while done < buf.len() {
-        let rest = &mut buf[done..];
-        let got = read_on(fd, rest);
-        let more = io::count(got, rest);
-        if more == 0 {
-            return Taken {
-                len: done,
-                failed: got < 0,
-            };
+        match write_on(writer, &buf[done..])? {
+            0 => return Err(io::Error::from(ErrorKind::WriteZero)),
+            more => done += more,
         }
-        done += more;
     }
-    Taken {
-        len: done,
-        failed: false,
-    }
-}
-
-// Writes all of buf: false where a write fails or takes nothing.
-pub fn write_all(fd: i32, buf: &[u8]) -> bool {
-    let mut done = 0;
-    while done < buf.len() {
-        let rest = &buf[done..];
-        let more = io::count(write_on(fd, rest), rest);
-        if more == 0 {
-            return false;
-        }
-        done += more;
-    }
-    true
+    Ok(())
 }

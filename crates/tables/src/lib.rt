@@ -23,7 +23,7 @@ const LEAST_SIDES: usize = 3;
 pub const MOST_SIDES: usize = 12;
 
 // The first place at which a rule applies: a vertex and 0, or a facet and a position or vertex.
-#[derive(Drop)]
+#[derive(Clone, Copy)]
 pub enum Found {
     At(usize, usize),
     Nothing,

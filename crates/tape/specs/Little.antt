@@ -1,6 +1,7 @@
 -- "Numbers are little-endian": a number of k bytes, the lowest first, and back. Assumes nothing.
 use Rattle.std.specs.Prelude.{◌≡◌, refl, List, [], ◌∷◌, ◌++◌, ℕ, zero, suc, ◌+◌, ◌*◌, ◌/◌, ◌%◌, ◌^◌, ◌≤◌, ◌<◌, ℤ, length, get_or, take, drop}
-use Rattle.std.proofs.Common.{ap, ◌∙◌, mod-eq_of_lt, zero-add, pow-suc, div-lt_iff_lt-mul, add-one, arith, lit<, drop-cons, get_or-append-add, Fits, SFits, of_z, to_z, to_z-of_z}
+use Rattle.std.proofs.Common.{ap, ◌∙◌, mod-eq_of_lt, zero-add, pow-suc, div-lt_iff_lt-mul, add-one, arith, lit<, drop-cons, get_or-append-add, Fits}
+use Rattle.std.proofs.Common.{SFits, of_z, to_z, to_z-of_z}
 use Rattle.std.proofs.Math.Nat.{mod-add-div, add-mul-mod_self_left, add-mul-div_left, div-eq_of_lt}
 use Rattle.std.specs.Int.Signed.{mag}
 use Rattle.std.specs.Int.{w16, w32}

@@ -207,7 +207,8 @@ module _ {s : List ℕ} {look : ℕ → ℕ → ℕ → ℕ → Next} (L : Looks
       }) in
       rw a (run_facets v h j (suc k) (omega arith) ∙ rw (e, length-append, length_from, add-one))
 
-  pub run_records : {at v f : ℕ} → Records s from at v f → (k : ℕ) → run look (k + f + v) from 0 0 0 ≡ run look k (place s at f) v f (length (corners_at s at f))
+  pub run_records : {at v f : ℕ} → Records s from at v f → (k : ℕ)
+      → run look (k + f + v) from 0 0 0 ≡ run look k (place s at f) v f (length (corners_at s at f))
   run_records {at} {v} {f} r k =
       run_points r v (k + f) (omega arith) ∙ rw r.next (run_facets v r.facets f k (omega arith))
 

@@ -8,7 +8,7 @@ ghost use Rattle.std.proofs.Common.{SFits};
 ghost use Rattle.tape.specs.Little.{bytes_of, unsigned_at, signed_at, signed, bits, PutsSigned};
 
 // What stands at an offset of a tape: a sound record, or a refusal's number and offset.
-#[derive(Drop)]
+#[derive(Clone, Copy)]
 pub enum Next {
     Point,
     Facet(usize),

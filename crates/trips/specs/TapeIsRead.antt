@@ -80,7 +80,8 @@ module _ {points : List ℤ} {corners begins : List ℕ} (h : Holds points corne
       small : (k : ℕ) → k < 3 → Sixteen (bits (coord_of points v k) ∷ [])
       small k m = sixteen_one (bits_fit (h.placed.fits v k l m)).fits
 
-  three : (v : ℕ) → v < vertices points → take (v * 3 + 3) points ≡ take (v * 3) points ++ (coord_of points v 0 ∷ coord_of points v 1 ∷ coord_of points v 2 ∷ [])
+  three : (v : ℕ) → v < vertices points
+      → take (v * 3 + 3) points ≡ take (v * 3) points ++ (coord_of points v 0 ∷ coord_of points v 1 ∷ coord_of points v 2 ∷ [])
   unfolding coord_of
   three v l =
       let a : v * 3 < length points = omega (arith, h.threes) in

@@ -165,7 +165,8 @@ taped_written {s} {points} {corners} {begins} t o buffer h =
     })
 
 pub read-then_written : (s : List ℕ) (points : List ℤ) (corners begins buffer : List ℕ) → Bytes s → answer_number (reading s points corners begins) ≡ 0
-    → InOrder (filled_points s points corners begins) (filled_corners s points corners begins) (filled_begins s points corners begins) → length s ≤ length buffer
+    → InOrder (filled_points s points corners begins) (filled_corners s points corners begins) (filled_begins s points corners begins)
+    → length s ≤ length buffer
     → SameBytes s (filled_points s points corners begins) (filled_corners s points corners begins) (filled_begins s points corners begins) buffer
 read-then_written s points corners begins buffer b n o h = taped_written (accepted-taped s points corners begins b n) o buffer h
 

@@ -21,7 +21,9 @@ arrived s = record { answer = passed; vertex = s.spot.vertex; height = s.spot.he
 module _ (points : List ℤ) (corners begins : List ℕ) (d : Direction) (start : ℕ) (trail : List ℕ) where
   -- "13 START, start is V or more; 14 DIRECTION, a part outside -32,767 to 32,767; 15 TRAIL, fewer than V entries"
   abbrev pub from_start : Answer
-  from_start = cond (leb (vertices points) start) (refused 13) (cond (is_wrong d) (refused 14) (cond (ltb (length trail) (vertices points)) (refused 15) passed))
+  from_start =
+      cond (leb (vertices points) start) (refused 13)
+      (cond (is_wrong d) (refused 14) (cond (ltb (length trail) (vertices points)) (refused 15) passed))
 
   -- "Refusals in this order: 1 to 12 as the judge gives", then these
   abbrev pub opening : Answer

@@ -6,7 +6,7 @@ ghost use Rattle.answers.specs.Answer.{refused};
 ghost use Rattle.walk.specs.Walk.{halted, arrived, walked, trail_after};
 
 // The walk's answer: the number and places beside the last vertex, its height, and the moves.
-#[derive(Drop)]
+#[derive(Clone, Copy)]
 pub struct Walked {
     pub answer: answers::Answer,
     pub vertex: u16,

@@ -2,6 +2,6 @@
 // one line: number, vertex, height, moves.
 #![tactic(auto)]
 
-fn main() {
-    run::walk_input(b"solid.tape");
+fn main(rt: HostRuntime) -> Result<(), run::Fault<'static>> {
+    run::walk_input(&rt, b"solid.tape")
 }

@@ -1,5 +1,6 @@
 -- How large a sum, a difference and a product of whole numbers are. Assumes nothing.
-use Rattle.std.specs.Prelude.{◌≡◌, refl, Bool, false, cond, ◌||◌, ℕ, zero, suc, ◌+◌, ◌-◌, ◌*◌, ◌^◌, ◌≤◌, T, ltb, ℤ, pos, negsuc, neg_ℤ, nat_abs, ◌+ℤ◌, ◌-ℤ◌, ◌*ℤ◌, ◌≤ℤ◌}
+use Rattle.std.specs.Prelude.{◌≡◌, refl, Bool, false, cond, ◌||◌, ℕ, zero, suc, ◌+◌, ◌-◌, ◌*◌, ◌^◌, ◌≤◌, T, ltb, ℤ, pos, negsuc, neg_ℤ, nat_abs, ◌+ℤ◌}
+use Rattle.std.specs.Prelude.{◌-ℤ◌, ◌*ℤ◌, ◌≤ℤ◌}
 use Rattle.std.proofs.Common.{le_trans, le_of_eq, mul-le-mul, arith, ltb→lt, leb→le, le→leb}
 use Rattle.std.specs.Int.Signed.{mag, lt_z, le_z_yes}
 use Rattle.std.specs.Int.{Width}

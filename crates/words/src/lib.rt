@@ -39,7 +39,7 @@ fn past(text: &[u8], set: &[u8], inside: bool, at: usize) -> usize
 }
 
 // Where a word stands in a text; an empty part where there is none.
-#[derive(Drop)]
+#[derive(Clone, Copy)]
 pub struct Span {
     pub start: usize,
     pub end: usize,

@@ -1,5 +1,6 @@
 -- `decimal::magnitude` meets its contract: -(z + 1) is at least 0 and fits where z is below 0. Assumes nothing.
-use Rattle.std.proofs.Common.{◌≡◌, refl, ◌∙◌, true, false, true≢false, ℕ, zero, suc, ◌+◌, ◌^◌, ◌<◌, add-one, arith, ℤ, pos, negsuc, neg_ℤ, nat_abs, ◌+ℤ◌, ◌-ℤ◌, T, ltb-true, w64, SFits, Fits, to_z-of_z}
+use Rattle.std.proofs.Common.{◌≡◌, refl, ◌∙◌, true, false, true≢false, ℕ, zero, suc, ◌+◌, ◌^◌, ◌<◌, add-one, arith, ℤ, pos, negsuc, neg_ℤ, nat_abs}
+use Rattle.std.proofs.Common.{◌+ℤ◌, ◌-ℤ◌, T, ltb-true, w64, SFits, Fits, to_z-of_z}
 use lib.IntN.{+ℤ_idl, +ℤ_one, neg_ℤ-neg_ℤ}
 use lib.Signed.{mag, lt_z, non_neg}
 use mir.Facts.{Fits-nat_abs}

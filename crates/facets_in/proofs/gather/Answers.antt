@@ -1,8 +1,7 @@
--- `facets_in::gather` meets its contract. Assumes nothing.
+-- The numbers below k are gathered; at the end all of them are. Assumes nothing.
 use Rattle.std.proofs.Common.{ap, [], ◌∷◌, ℕ, arith}
-use lib.Seq.{sets}
+use Rattle.std.proofs.lemmas.List.Edits.{sets}
 use Rattle.whole.specs.Joined.{length-listed}
-use Rattle.tape.specs.Little.{unsigned_at}
 use Rattle.tape.specs.SoFar.{so_far_0, so_far_more, so_far_all}
 use Rattle.facets_in.proofs.gather.Goals as goal
 
@@ -14,27 +13,6 @@ loop-k-preserved c =
 
 pub loop-k-init : goal.loop-k-init
 loop-k-init c = so_far_0 _
-
-pub overflow_mul-k : goal.overflow_mul-k
-overflow_mul-k c = omega arith
-
-pub overflow_add-i : goal.overflow_add-i
-overflow_add-i c = omega arith
-
-pub unsigned_at-requires : goal.unsigned_at-requires
-unsigned_at-requires c = omega arith
-
-pub offset_bounds-tray-k : goal.offset_bounds-tray-k
-offset_bounds-tray-k c = omega arith
-
-pub bounds-tray-k : goal.bounds-tray-k
-bounds-tray-k c = omega arith
-
-pub overflow_add-k : goal.overflow_add-k
-overflow_add-k c = omega arith
-
-pub loop-k-smaller : goal.loop-k-smaller
-loop-k-smaller c = omega arith
 
 pub shape_of-tray : goal.shape_of-tray
 shape_of-tray c = c.loop-k.invariant.wrote.long

@@ -2,7 +2,6 @@
 use Rattle.std.proofs.Common.{rules, sym, ◌∙◌}
 use Rattle.whole.specs.First.{yet_0, yet_more}
 use Rattle.tables.specs.Found.{lowest-hit, lowest-end}
-use Rattle.limits.specs.Rules.{out_of_range}
 use Rattle.limits.proofs.range.Goals as goal
 
 pub loop-v-init : goal.loop-v-init

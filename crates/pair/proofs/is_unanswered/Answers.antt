@@ -27,7 +27,13 @@ end_at-requires c =
 
 pub returns-then-corners-q : goal.returns-then-corners-q
 returns-then-corners-q c =
-    rw (unlike-entry c.requires.indexed c.requires.place c.across_at-q.ensures, ← c.across_at.ensures, eq-eqb _ _ c.if-across_at-p.false, ← c.end_at.ensures, ne_eqb _ _ c.if-corners-q.true)
+    rw (
+      unlike-entry c.requires.indexed c.requires.place c.across_at-q.ensures,
+      ← c.across_at.ensures,
+      eq-eqb _ _ c.if-across_at-p.false,
+      ← c.end_at.ensures,
+      ne_eqb _ _ c.if-corners-q.true,
+    )
 
 pub end_at-requires-2 : goal.end_at-requires-2
 end_at-requires-2 c =

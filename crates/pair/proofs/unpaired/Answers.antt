@@ -12,8 +12,10 @@ returns-then-times-gt1 c =
     rw (← end_is c.requires.indexed c.requires.place, ← c.end_at-b.ensures, ← c.times.ensures, lt-ltb _ _ c.if-times-gt1.true)
 
 pub times-requires-2 : goal.times-requires-2
-times-requires-2 c =
-    record { leaving = leaves-each c.requires.indexed; vertex = rw (c.end_at-b.ensures, end_is c.requires.indexed c.requires.place) (to-small c.requires.indexed.tables c.requires.place) }
+times-requires-2 c = record {
+  leaving = leaves-each c.requires.indexed;
+  vertex = rw (c.end_at-b.ensures, end_is c.requires.indexed c.requires.place) (to-small c.requires.indexed.tables c.requires.place);
+}
 
 pub returns : goal.returns
 returns c =

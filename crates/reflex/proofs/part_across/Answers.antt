@@ -1,7 +1,7 @@
 -- `reflex::part_across` meets its contract. Assumes nothing.
 use Rattle.std.proofs.Common.{arith}
 use Rattle.edges.specs.Index.{small, across_at-below, home_at-in}
-use Rattle.pair.specs.Across.{across_small, facet_across}
+use Rattle.pair.specs.Across.{across_small, facet_across_lem}
 use Rattle.reflex.proofs.part_across.Goals as goal
 
 pub home_at-requires : goal.home_at-requires
@@ -15,7 +15,7 @@ part-requires c =
 
 pub returns : goal.returns
 returns c =
-    rw (c.part.ensures.is, c.home_at.ensures, c.across_at-other.ensures, facet_across c.requires.crossed c.requires.place)
+    rw (c.part.ensures.is, c.home_at.ensures, c.across_at-other.ensures, facet_across_lem c.requires.crossed c.requires.place)
 
 pub across_at-other-requires : goal.across_at-other-requires
 across_at-other-requires c = small c.requires.crossed.indexed c.requires.place

@@ -2,7 +2,6 @@
 use Rattle.std.proofs.Common.{arith}
 use Rattle.whole.specs.First.{yet_0, yet_more}
 use Rattle.tables.specs.Found.{lowest-hit, lowest-end}
-use Rattle.ring.specs.Ring.{broken}
 use Rattle.ring.proofs.ring.Goals as goal
 
 pub returns-then-broken : goal.returns-then-broken

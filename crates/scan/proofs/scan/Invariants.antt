@@ -8,7 +8,8 @@ use Rattle.scan.specs.Rules.{is_outside}
 use Rattle.scan.proofs.scan.Given as goal
 
 abbrev pub invariant-loop-f : goal.invariant-loop-f
-invariant-loop-f l = Measured l.points l.corners l.begins × Free (facets l.begins) (λ f'. vertices l.points) (λ f'. is_outside l.points (facet_of l.corners l.begins f')) f'
+invariant-loop-f l =
+    Measured l.points l.corners l.begins × Free (facets l.begins) (λ f. vertices l.points) (λ f. is_outside l.points (facet_of l.corners l.begins f)) l.f
 
 abbrev pub decreases-loop-f : goal.decreases-loop-f
 decreases-loop-f l = l.m - l.f

@@ -1,7 +1,6 @@
 -- `tables::some_wrong_sides` meets its contract: the law of searches, at the test `wrong_sides begins`. Assumes nothing.
 use Rattle.std.proofs.Common.{rules, sym, ◌∙◌, arith}
 use Rattle.whole.specs.First.{yet_0, yet_more, any_hit, any_miss}
-use Rattle.tables.specs.Size.{wrong_sides}
 use Rattle.tables.proofs.some_wrong_sides.Goals as goal
 
 pub loop-f-init : goal.loop-f-init

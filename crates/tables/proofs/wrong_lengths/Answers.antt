@@ -14,7 +14,12 @@ returns-then-points-gt-MOST_VERTICES c =
 
 pub returns-then-begins : goal.returns-then-begins
 returns-then-begins c =
-    rw (eq-eqb _ _ c.if-points-ne0.false, le-ltb _ _ c.if-points-lt-LEAST_VERTICES.false, le-ltb _ _ c.if-points-gt-MOST_VERTICES.false, lt-ltb _ _ c.if-begins.true)
+    rw (
+      eq-eqb _ _ c.if-points-ne0.false,
+      le-ltb _ _ c.if-points-lt-LEAST_VERTICES.false,
+      le-ltb _ _ c.if-points-gt-MOST_VERTICES.false,
+      lt-ltb _ _ c.if-begins.true,
+    )
 
 pub returns-then-begins-2 : goal.returns-then-begins-2
 returns-then-begins-2 c =

@@ -1,5 +1,6 @@
 -- `tape::bits_of` meets its contract. Assumes nothing.
-use Rattle.std.proofs.Common.{◌≡◌, refl, true, false, suc, arith, ℤ, pos, negsuc, ◌+ℤ◌, le-ltb, ltb-true, ltb-false, w16, w32, Fits, SFits, to_z, of_z, to_z-of_z}
+use Rattle.std.proofs.Common.{◌≡◌, refl, true, false, suc, arith, ℤ, pos, negsuc, ◌+ℤ◌, le-ltb, ltb-true, ltb-false, w16, w32, Fits, SFits, to_z}
+use Rattle.std.proofs.Common.{of_z, to_z-of_z}
 use lib.Signed.{lt_z}
 use mir.Facts.{Fits-of_z}
 use Rattle.tape.specs.Little.{bits}

@@ -15,22 +15,22 @@ loop-p-init c =
 pub some_stray-requires : goal.some_stray-requires
 some_stray-requires c =
     let l = c.loop-p in
-    let f = l.inv.facet in
-    (f, l.inv.normal.small, f.named l.p (omega arith), rw c.corner_after.ensures (after-named l.p f (omega arith)))
+    let f = l.invariant.facet in
+    (f, l.invariant.normal.small, f.named l.p (omega arith), rw c.corner_after.ensures (after-named l.p f (omega arith)))
 
 pub returns-then-some_stray : goal.returns-then-some_stray
 unfolding is_turn
 returns-then-some_stray c =
     let i = c.loop-p.invariant in
-    let e = rw (c.corner_after.ensures, i.normal-n.is) at c.some_stray.ensures in
+    let e = rw (c.corner_after.ensures, i.normal.is) at c.some_stray.ensures in
     yet_hit i.yet (sym e ∙ c.if-some_stray.true) (omega arith)
 
 pub loop-p-preserved : goal.loop-p-preserved
 unfolding is_turn
 loop-p-preserved c =
     let i = c.loop-p.invariant in
-    let e = rw (c.corner_after.ensures, i.normal-n.is) at c.some_stray.ensures in
-    record { facet = i.facet; normal = i.normal-n; yet = yet_more i.yet (sym e ∙ c.if-some_stray.false) (omega arith) }
+    let e = rw (c.corner_after.ensures, i.normal.is) at c.some_stray.ensures in
+    record { facet = i.facet; normal = i.normal; yet = yet_more i.yet (sym e ∙ c.if-some_stray.false) (omega arith) }
 
 pub overflow_add-p : goal.overflow_add-p
 overflow_add-p c = omega arith

@@ -1,0 +1,14 @@
+-- `climb::Standing::step` meets its contract. Assumes nothing.
+use Rattle.std.proofs.Common.{◌∙◌, sym}
+use Rattle.climb.specs.Stepped.{best_moves, best_stays}
+use Rattle.climb.proofs.Standing.step.Goals as goal
+
+pub returns-then-is_above : goal.returns-then-is_above
+returns-then-is_above c =
+    let R = c.requires in
+    best_moves _ _ _ _ R.placed c.highest-best.ensures (sym c.is_above.ensures ∙ c.if-is_above.true)
+
+pub returns : goal.returns
+returns c =
+    let R = c.requires in
+    best_stays _ _ _ _ R.placed c.highest-best.ensures (sym c.is_above.ensures ∙ c.if-is_above.false)

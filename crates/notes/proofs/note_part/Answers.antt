@@ -1,0 +1,11 @@
+-- `notes::note_part` meets its contract. Assumes nothing.
+use Rattle.std.proofs.Common.{refl}
+use Rattle.lines.specs.Line.{number_read}
+use Rattle.notes.proofs.note_part.Goals as goal
+
+pub returns : goal.returns
+returns c =
+    record {
+      number_is = refl;
+      out_is = rw (c.note.ensures, number_read _ c.number_of.ensures, number_read _ c.number_of-2.ensures);
+    }
