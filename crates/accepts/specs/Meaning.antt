@@ -9,7 +9,7 @@ use Rattle.answers.specs.Order.{first_of, Passes, passes_none, passes_beginning,
 use Rattle.limits.specs.InOrder.{InOrder, limit_rules, none_limits}
 use Rattle.pair.specs.Pair.{pair-none}
 use Rattle.bridge.specs.Surface.{tables_of, sized_tables}
-use Rattle.bridge.specs.Closed.{shut}
+use Rattle.bridge.proofs.Closed.{shut}
 use Rattle.flat.specs.Facet.{Measured}
 use Rattle.shape.specs.Flat.{flat_bent, flat_turn}
 use Rattle.shape.specs.Folds.{reflex_none}

@@ -15,7 +15,7 @@ use Rattle.answers.specs.declared.Fault.TheVariants.{Breaks, None}
 use Rattle.limits.specs.InOrder.{InOrder, laid}
 use Rattle.pair.specs.Pair.{Paired, pair-none}
 use Rattle.bridge.specs.Surface.{tables_of}
-use Rattle.bridge.specs.Closed.{is_closed}
+use Rattle.bridge.proofs.Closed.{is_closed}
 use Rattle.solid.specs.Tables.{Closed}
 use Rattle.stages.specs.Known.{measured}
 use Rattle.judge.specs.Judge.{rules, judged}

@@ -5,7 +5,7 @@ use Rattle.tables.specs.declared.Found.TheVariants.{Nothing}
 use Rattle.answers.specs.Answer.{fault_number}
 use Rattle.answers.specs.Order.{Passes, place_for, none_for, first_of, number_0}
 use Rattle.bridge.specs.Surface.{tables_of}
-use Rattle.bridge.specs.Closed.{is_closed}
+use Rattle.bridge.proofs.Closed.{is_closed}
 use Rattle.reflex.specs.Rules.{reflex}
 use Rattle.shape.specs.Flat.{flat}
 use Rattle.shape.specs.Folds.{no_reflex}

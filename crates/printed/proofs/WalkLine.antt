@@ -14,7 +14,7 @@ use Rattle.direction.specs.declared.Direction.{Direction}
 use Rattle.walk.specs.Meaning.{Granted, WalkEnd, walk-end_is}
 use Rattle.walk.specs.Meaning as Walk
 use Rattle.walk.specs.declared.Walked.{Walked}
-use Rattle.farthest.specs.Demand3.{demand_3}
+use Rattle.farthest.proofs.Demand3.{demand_3}
 use Rattle.lines.specs.Line.{number_of_lem}
 use Rattle.input.specs.Input.{start_in, direction_in}
 use Rattle.walk_tape.specs.Tape.{trail, walked_tape}

@@ -1,0 +1,2 @@
+-- A walk that is granted meets demand 3.
+pub mod Demand3
