@@ -1,18 +1,15 @@
 -- What the start and the direction of the walk program's input stand for. Assumes nothing.
-use Rattle.std.specs.Prelude.{◌≡◌, refl, Bool, true, false, cond, List, [], ℕ, ◌≤◌, ◌<◌, ltb, ℤ, pos, negsuc, length}
-use Rattle.std.proofs.Common.{sym, ap, ◌∙◌, arith, ltb-false, le-ltb}
+use Rattle.std.specs.Prelude.{◌≡◌, refl, Bool, true, false, cond, List, [], ℕ, ◌≤◌, ◌<◌, ℤ, pos, negsuc, length}
+use Rattle.std.proofs.Common.{sym, ap, ◌∙◌, arith}
 use Rattle.std.proofs.lemmas.Bool.{false≢true}
-use Rattle.std.proofs.Math.Decide.{dec_lt}
-use Rattle.std.proofs.Math.ListN.{get_or-eq_default}
 use Rattle.whole.specs.Bounds.{◌within◌, within-≤, not_exceeds, exceeds}
-use Rattle.whole.specs.Count.{neither}
 use Rattle.tables.specs.Tables.{most_vertices}
 use Rattle.words.specs.Words.{is_blank, words, word_of}
 use Rattle.numbers.specs.Number.{is_number, value}
 use Rattle.numbers.specs.Reading.{clamp, read_of, clamp-is, clamp-below, within-clamp}
 use Rattle.numbers.specs.declared.Read.TheVariants.{Number, Malformed}
 use Rattle.direction.specs.Direction.{direction, steepest, Permitted}
-use Rattle.input.specs.Input.{longest, split, start_of, no_vertex, negative, no_part, part_of, is_crowded, direction_in}
+use Rattle.input.specs.Input.{longest, split, start_of, no_vertex, negative, no_part, part_of}
 
 -- a word is a number, of the value z; one that is missing has no byte, and says none
 pub record Says (word : List ℕ) (z : ℤ) : Type 0 where
@@ -79,48 +76,3 @@ pub record NamesDirection (input : List ℕ) (x y z : ℤ) : Type 0 where
   pub says_y : Says (word_of is_blank (split input) 2) y
   pub says_z : Says (word_of is_blank (split input) 3) z
   pub permitted : Permitted (direction x y z)
-
--- so there are four words, no more and no less
-pub four-words : {input : List ℕ} {x y z : ℤ} → NamesDirection input x y z → length (words is_blank (split input)) ≡ 4
-four-words {input} {z = z} n =
-    let ws = words is_blank (split input) in
-    elim (dec_lt 3 (length ws)) [
-      | yes l ↦ omega (arith, n.four)
-      | no l ↦ absurd (missing z (rw (get_or-eq_default ws [] {n = 3} (omega arith)) at n.says_z))
-    ]
-
-pub named_direction : {input : List ℕ} {x y z : ℤ} → NamesDirection input x y z → direction_in input ≡ direction x y z
-unfolding direction_in
-named_direction {input} n =
-    let p = n.permitted in
-    rw (
-      le-ltb longest (length input) n.short,
-      le-ltb 4 (length (words is_blank (split input))) n.four,
-      says_part n.says_x p.x,
-      says_part n.says_y p.y,
-      says_part n.says_z p.z,
-    )
-
--- every other input is 14: its direction is not permitted
-pub direction-named : (input : List ℕ) → Permitted (direction_in input) → let d = direction_in input in NamesDirection input d.x d.y d.z
-unfolding direction_in
-direction-named input p = go (is_crowded input) refl p
-  where
-    other : List ℕ → ℕ → ℤ
-    other input k = part_of (read_of (word_of is_blank (split input) k))
-
-    go : (t : Bool) → is_crowded input ≡ t
-        → Permitted (cond t (direction no_part no_part no_part) (direction (other input 1) (other input 2) (other input 3)))
-        → let d = cond t (direction no_part no_part no_part) (direction (other input 1) (other input 2) (other input 3)) in
-        NamesDirection input d.x d.y d.z
-    go true e p = absurd (omega (arith, p.x.abs))
-    go false e p =
-        let (a, b) = neither (ltb longest (length input)) (ltb 4 (length (words is_blank (split input)))) e in
-        record {
-          short = ltb-false _ _ a;
-          four = ltb-false _ _ b;
-          says_x = part_says _ p.x;
-          says_y = part_says _ p.y;
-          says_z = part_says _ p.z;
-          permitted = p;
-        }

@@ -46,10 +46,10 @@ EachFew (r ∷ rs) = (T (leb r.number most_corners) × Few r.search) × EachFew 
 
 module _ {points : List ℤ} {corners begins : List ℕ} (S : SmallTables points corners begins) where
   small_answer : {rs : List Rule} {x : Fault} → EachFew rs → Given rs x → SmallAnswer (answer_of points corners begins x)
-  small_answer ((n, e), es) (here {r} h) =
-      let (a, b) = small_place r.search e h in
-      record { number = lit≤ n; first = a; second = b; third = omega arith }
-  small_answer (e, es) (after _ g) = small_answer es g
+  small_answer e (here {r} h) =
+      let (a, b) = small_place r.search e.0.1 h in
+      record { number = lit≤ e.0.0; first = a; second = b; third = omega arith }
+  small_answer e (after _ g) = small_answer e.1 g
   small_answer e none = record { number = omega arith; first = S.few_points; second = omega (arith, S.few_corners); third = S.few_facets }
 
   pub small_judged : SmallAnswer (judged points corners begins)

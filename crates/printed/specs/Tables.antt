@@ -1,5 +1,5 @@
 -- The tables of a tape that is read: the judge's answer to them, the walk on them, and that they are small. Assumes nothing.
-use Rattle.std.specs.Prelude.{◌≡◌, List, ℕ, ◌+◌, ◌*◌, ◌≤◌, ◌<◌, length, get_or}
+use Rattle.std.specs.Prelude.{◌≡◌, List, ℕ, ◌+◌, ◌*◌, ◌≤◌, length, get_or}
 use Rattle.std.proofs.Math.Decide.{dec_lt}
 use Rattle.std.proofs.Common.{mul-div_cancel, arith, lit<}
 use Rattle.std.proofs.Math.ListN.{get_or-eq_default}
