@@ -14,7 +14,7 @@ use Rattle.edges.specs.Edge.{across_of, facet_across}
 use Rattle.pair.specs.Across.{across, edge-once, Matched, paired_if, means_pair}
 use Rattle.bridge.specs.Lower.{repeat-single, single-repeat, Used, unused-used, used_unused}
 use Rattle.ring.specs.Step.{round_of, step-below, step-leaves, step-home}
-use Rattle.ring.specs.Ring.{ring, RoundTo, OneRing, ring-means, ring-from}
+use Rattle.ring.specs.Ring.{RoundTo, OneRing, ring-means, ring-from}
 use Rattle.apart.specs.Apart.{Reached, apart-means, means_apart}
 use Rattle.solid.specs.Reach.{Around, here, hop, Ring, Linked, self, link}
 use Rattle.solid.specs.Tables.{Tables, Place, Corner, Edge, Closed, next}

@@ -3,7 +3,6 @@ use Rattle.std.specs.Prelude.{◌≡◌, ◌≢◌, List, ◌++◌, ℕ, ◌+◌
 use Rattle.points.specs.Points.{vertices}
 use Rattle.answers.specs.Answer.{passed}
 use Rattle.solid.specs.Tables.{Edge}
-use Rattle.solid.proofs.Theorems as Solid
 use Rattle.bridge.specs.Surface.{tables_of}
 use Rattle.height.specs.Height.{height}
 use Rattle.climb.specs.Stepped.{Chosen}

@@ -1,6 +1,6 @@
 -- "The table of sixteen": cases A to P in the sheet's order, each with its question and the sheet's answer, and the one statement over them all.
 use Rattle.std.specs.Prelude.{◌≡◌, refl, ℕ, ℤ, pos, neg_ℤ, take, replicate, get_or}
-use mathlib.Core.List.{List, [], ◌∷◌, ◌++◌, map, Memᴰ, head-eq_of_cons-eq, tail-eq_of_cons-eq}
+use mathlib.Core.List.{List, [], ◌∷◌, ◌++◌, map}
 use Rattle.whole.specs.First.{first_below}
 use Rattle.whole.specs.Count.{count_below, last_below}
 use Rattle.whole.specs.Orbit.{iterate}
@@ -210,11 +210,3 @@ unfolding judged first_of is_size is_out coord_of first_below count_below last_b
     judged_outline judged_turns few coordOf² before after² is_greater det² joined packed
     bytes_of bits over read_tape run look_at number_at signed place
 all_sixteen = refl
-
-alike : (f g : Case → Reply) {r : Case} {rows : List Case} → map f rows ≡ map g rows → Memᴰ r rows → f r ≡ g r
-alike f g e (Memᴰ.head p) = rw p (head-eq_of_cons-eq e)
-alike f g e (Memᴰ.tail m) = alike f g (tail-eq_of_cons-eq e) m
-
--- so every row of the table has the sheet's answer
-pub each : {r : Case} → Memᴰ r table → answer r.question ≡ r.reply
-each = alike (λ r. answer r.question) (λ r. r.reply) all_sixteen

@@ -1,2 +1,2 @@
-// The table of sixteen stands in specs/: this crate has no code.
+// The table of sixteen stands in specs/ and proofs/: this crate has no code.
 #![tactic(auto)]
