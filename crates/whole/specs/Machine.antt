@@ -1,6 +1,6 @@
 -- Rattle's signed arithmetic on bounded numbers wraps nowhere. Assumes nothing.
 -- Use: an expression says what a function computes of its parameters, and `Small` bounds these. Then `fits` answers what each operation
--- asks, by its number in the order in which they are computed, and `reads` what is returned. See `space`, proofs/minor/Proof.antt.
+-- asks, by its number in the order in which they are computed, and `reads` what is returned. See `space`, proofs/minor/Answers.antt.
 use Rattle.std.specs.Prelude.{◌≡◌, refl, List, [], ◌∷◌, Bool, ◌&&◌, ℕ, zero, suc, ◌+◌, ◌*◌, ◌^◌, T, ltb, leb, ℤ, pos, neg_ℤ, nat_abs, ◌+ℤ◌, ◌-ℤ◌, ◌*ℤ◌}
 use Rattle.std.proofs.Common.{sym, ◌∙◌, ap, ap₂, subst, arith, leb→le, to_z-of_z}
 use Rattle.std.proofs.Math.IntN.{+ℤ_idl}
