@@ -1,6 +1,9 @@
 // The stored cases of the facet look-up.
 #![tactic(auto)]
 
+ghost use Rattle.std.specs.Prelude.{ℕ, List};
+ghost use Rattle.std.specs.Io.KnownBytes.{Appends};
+
 use std::io;
 use std::io::Write;
 
@@ -12,7 +15,9 @@ pub fn facet_case<W: Write>(
     points: &[i32],
     corners: &[u16],
     begins: &[u16],
-) -> io::Result<usize> {
+) -> io::Result<usize>
+    ensures { (bs : List ℕ) × Appends (W.contents writer.old) (W.contents writer.new) bs }
+{
     let mut at = from;
     let facet = case_numbers::next_natural(text, &mut at, 4294967295) as u32;
     let mut out = [0i64; 2];
@@ -20,6 +25,6 @@ pub fn facet_case<W: Write>(
     case_show::show_answer(writer, number, &out)?;
     let part = tables::facet(points, corners, begins, facet as usize);
     case_show::show_shorts(writer, part, part.len())?;
-    writer.write_all(b"\n")?;
+    case_show::show_text(writer, b"\n")?;
     Ok(at)
 }

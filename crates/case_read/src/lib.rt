@@ -1,6 +1,9 @@
 // The stored cases of the tape's reader.
 #![tactic(auto)]
 
+ghost use Rattle.std.specs.Prelude.{ℕ, List};
+ghost use Rattle.std.specs.Io.KnownBytes.{Appends};
+
 use std::io;
 use std::io::Write;
 
@@ -15,7 +18,9 @@ fn show_tables<W: Write>(
     points: &[i32],
     corners: &[u16],
     begins: &[u16],
-) -> io::Result<usize> {
+) -> io::Result<usize>
+    ensures { (bs : List ℕ) × Appends (W.contents writer.old) (W.contents writer.new) bs }
+{
     let mut at = from;
     let p = case_numbers::next_natural(text, &mut at, points.len());
     case_show::show_points(writer, points, p)?;
@@ -23,7 +28,7 @@ fn show_tables<W: Write>(
     case_show::show_shorts(writer, corners, c)?;
     let b = case_numbers::next_natural(text, &mut at, begins.len());
     case_show::show_shorts(writer, begins, b)?;
-    writer.write_all(b"\n")?;
+    case_show::show_text(writer, b"\n")?;
     Ok(at)
 }
 
@@ -34,7 +39,9 @@ pub fn read_case<W: Write>(
     text: &[u8],
     from: usize,
     tape: &[u8],
-) -> io::Result<usize> {
+) -> io::Result<usize>
+    ensures { (bs : List ℕ) × Appends (W.contents writer.old) (W.contents writer.new) bs }
+{
     let mut at = from;
     let p = case_numbers::next_natural(text, &mut at, TABLE);
     let c = case_numbers::next_natural(text, &mut at, TABLE);

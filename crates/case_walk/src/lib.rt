@@ -1,6 +1,9 @@
 // The stored cases of the walk.
 #![tactic(auto)]
 
+ghost use Rattle.std.specs.Prelude.{ℕ, List};
+ghost use Rattle.std.specs.Io.KnownBytes.{Appends};
+
 use std::io;
 use std::io::Write;
 
@@ -15,7 +18,9 @@ pub fn walk_case<W: Write>(
     points: &[i32],
     corners: &[u16],
     begins: &[u16],
-) -> io::Result<usize> {
+) -> io::Result<usize>
+    ensures { (bs : List ℕ) × Appends (W.contents writer.old) (W.contents writer.new) bs }
+{
     let mut at = from;
     let start = case_numbers::next_natural(text, &mut at, 4294967295) as u32;
     let dx = case_numbers::next_signed(text, &mut at);
@@ -28,6 +33,6 @@ pub fn walk_case<W: Write>(
     let number = exports::solid_walk(points, corners, begins, start, dx, dy, dz, trail, &mut out);
     case_show::show_answer(writer, number, &out)?;
     case_show::show_shorts(writer, trail, trail.len())?;
-    writer.write_all(b"\n")?;
+    case_show::show_text(writer, b"\n")?;
     Ok(at)
 }

@@ -1,6 +1,9 @@
 // The stored cases of the tape's writer.
 #![tactic(auto)]
 
+ghost use Rattle.std.specs.Prelude.{ℕ, List};
+ghost use Rattle.std.specs.Io.KnownBytes.{Appends};
+
 use std::io;
 use std::io::Write;
 
@@ -16,7 +19,9 @@ pub fn write_case<W: Write>(
     points: &[i32],
     corners: &[u16],
     begins: &[u16],
-) -> io::Result<usize> {
+) -> io::Result<usize>
+    ensures { (bs : List ℕ) × Appends (W.contents writer.old) (W.contents writer.new) bs }
+{
     let mut at = from;
     let n = case_numbers::next_natural(text, &mut at, BUFFER);
     let mut room = [77u8; BUFFER];
@@ -26,6 +31,6 @@ pub fn write_case<W: Write>(
     case_show::show_answer(writer, number, &out)?;
     let shown = case_numbers::next_natural(text, &mut at, buffer.len());
     case_show::show_bytes(writer, buffer, shown)?;
-    writer.write_all(b"\n")?;
+    case_show::show_text(writer, b"\n")?;
     Ok(at)
 }

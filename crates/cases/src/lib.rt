@@ -2,6 +2,9 @@
 // The answer is printed on one line, and after it what stands in the lent tables.
 #![tactic(auto)]
 
+ghost use Rattle.std.specs.Prelude.{ℕ, List};
+ghost use Rattle.std.specs.Io.KnownBytes.{Appends};
+
 use std::io;
 use std::io::Write;
 
@@ -11,7 +14,9 @@ const LIST: usize = 400;
 const TAPE: usize = 13000;
 
 // J, W, F, T: reads a solid's tables, then runs the case of a letter on them. Where the text goes on.
-fn solid_case<W: Write>(writer: &mut W, letter: u8, text: &[u8], from: usize) -> io::Result<usize> {
+fn solid_case<W: Write>(writer: &mut W, letter: u8, text: &[u8], from: usize) -> io::Result<usize>
+    ensures { (bs : List ℕ) × Appends (W.contents writer.old) (W.contents writer.new) bs }
+{
     let mut at = from;
     let mut points = [0i32; LIST];
     let p = case_lists::fill_points(text, &mut at, &mut points);
@@ -34,7 +39,9 @@ fn solid_case<W: Write>(writer: &mut W, letter: u8, text: &[u8], from: usize) ->
 }
 
 // L, M, R: reads a tape, then runs the case of a letter on it. Where the text goes on.
-fn tape_case<W: Write>(writer: &mut W, letter: u8, text: &[u8], from: usize) -> io::Result<usize> {
+fn tape_case<W: Write>(writer: &mut W, letter: u8, text: &[u8], from: usize) -> io::Result<usize>
+    ensures { (bs : List ℕ) × Appends (W.contents writer.old) (W.contents writer.new) bs }
+{
     let mut at = from;
     let mut tape = [0u8; TAPE];
     let n = case_lists::fill_bytes(text, &mut at, &mut tape);
@@ -50,7 +57,9 @@ fn tape_case<W: Write>(writer: &mut W, letter: u8, text: &[u8], from: usize) -> 
 }
 
 // Runs the case that begins with the next word. Where the text goes on.
-fn case<W: Write>(writer: &mut W, text: &[u8], at: usize) -> io::Result<usize> {
+fn case<W: Write>(writer: &mut W, text: &[u8], at: usize) -> io::Result<usize>
+    ensures { (bs : List ℕ) × Appends (W.contents writer.old) (W.contents writer.new) bs }
+{
     let part = words::next(text, &words::BLANKS, at);
     let start = part.start;
     if start < text.len() {
@@ -65,7 +74,9 @@ fn case<W: Write>(writer: &mut W, text: &[u8], at: usize) -> io::Result<usize> {
 }
 
 // Runs all cases of the text; it has no more of them than bytes.
-pub fn run<W: Write>(writer: &mut W, text: &[u8]) -> io::Result<()> {
+pub fn run<W: Write>(writer: &mut W, text: &[u8]) -> io::Result<()>
+    ensures { (bs : List ℕ) × Appends (W.contents writer.old) (W.contents writer.new) bs }
+{
     let mut at = 0;
     for _ in 0..text.len() {
         at = case(writer, text, at)?;

@@ -12,8 +12,8 @@ slice_bounds-text-end g c =
     let ends = rw (to_z-of_z c.ranges.z) at c.put_number-end.ensures.ends in
     omega (arith, ends, c.put_number-end.auto.buf, few_bytes c.args.z c.ranges.z)
 
-pub slice_bounds-write_all-end : goal.slice_bounds-write_all-end
-slice_bounds-write_all-end g c =
+pub slice_bounds-show_text-end : goal.slice_bounds-show_text-end
+slice_bounds-show_text-end g c =
     let ends = rw (to_z-of_z c.ranges.z) at c.put_number-end.ensures.ends in
     let within : c.put_number-end.result ≤ length c.put_number-end.new.buf = omega (arith, ends, c.put_number-end.auto.buf, few_bytes c.args.z c.ranges.z) in
     sym (length-take-le _ _ within)
