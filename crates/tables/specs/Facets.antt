@@ -1,12 +1,11 @@
 -- A rule that looks at one facet's part of the run at a time, and the loop that finds its first place. Assumes nothing.
-use Rattle.std.specs.Prelude.{◌≡◌, Bool, List, ℕ, ◌+◌, ◌≤◌, ◌<◌, length}
-use Rattle.whole.specs.First.{first_below}
+use Rattle.std.specs.Prelude.{◌≡◌, Bool, List, ℕ, ◌+◌, ◌≤◌, ◌<◌, length, Some, None}
+use Rattle.whole.specs.First.{found_below}
 use Rattle.tables.specs.Tables.{facets, sides, facet_of}
 use Rattle.tables.specs.Size.{Laid}
 use Rattle.tables.specs.Places.{part_length}
 use Rattle.tables.specs.Found.{Free, free_0, free_hit, free_more, free_all}
 use Rattle.tables.specs.Search.{Search, of_places, place_of}
-use Rattle.tables.specs.declared.Found.TheVariants.{At, Nothing}
 
 -- the test of a position, on each facet's part
 abbrev pub on_facets : List ℕ → List ℕ → (List ℕ → ℕ → Bool) → ℕ → ℕ → Bool
@@ -24,14 +23,13 @@ pub clear_0 : {corners begins : List ℕ} {test : List ℕ → ℕ → Bool} →
 clear_0 = record { free = free_0 _ _ _ }
 
 module _ {corners begins : List ℕ} {test : List ℕ → ℕ → Bool} {f : ℕ} (clear : Clear corners begins test f) where
-  -- p is the first position at which the test holds in facet f's part, or its length
-  module _ {part : List ℕ} {p : ℕ} (laid : Laid corners begins) (l : f < facets begins) (is : part ≡ facet_of corners begins f)
-      (first : p ≡ first_below (test part) (length part)) where
-    pub clear_hit : p < length part → At f p ≡ place_of (in_facets corners begins test)
-    clear_hit h = free_hit clear.free l (rw (is, part_length laid l) at first) (rw (is, part_length laid l) at h)
+  -- the first position at which the test holds in facet f's part, or none
+  module _ {part : List ℕ} (laid : Laid corners begins) (l : f < facets begins) (is : part ≡ facet_of corners begins f) where
+    pub clear_hit : {p : ℕ} → Some p ≡ found_below (test part) (length part) → Some (f, p) ≡ place_of (in_facets corners begins test)
+    clear_hit e = free_hit clear.free l (rw (is, part_length laid l) at e)
 
-    pub clear_more : length part ≤ p → Clear corners begins test (f + 1)
-    clear_more h = record { free = free_more clear.free l (rw (is, part_length laid l) at first) (rw (is, part_length laid l) at h) }
+    pub clear_more : None ≡ found_below (test part) (length part) → Clear corners begins test (f + 1)
+    clear_more e = record { free = free_more clear.free l (rw (is, part_length laid l) at e) }
 
-  pub clear_all : facets begins ≤ f → Nothing ≡ place_of (in_facets corners begins test)
+  pub clear_all : facets begins ≤ f → None ≡ place_of (in_facets corners begins test)
   clear_all = free_all clear.free

@@ -1,11 +1,7 @@
 -- `tables::some_wrong_sides` meets its contract: the law of searches, at the test `wrong_sides begins`. Assumes nothing.
-use Rattle.std.proofs.Common.{◌-◌}
 use Rattle.whole.specs.First.{NoneYet}
 use Rattle.tables.specs.Size.{wrong_sides}
 use Rattle.tables.proofs.some_wrong_sides.Given as goal
 
 abbrev pub invariant-loop-f : goal.invariant-loop-f
-invariant-loop-f l = NoneYet (wrong_sides l.begins) l.n l.f
-
-abbrev pub decreases-loop-f : goal.decreases-loop-f
-decreases-loop-f l = l.n - l.f
+invariant-loop-f l = NoneYet (wrong_sides l.begins) l.f-end l.f
