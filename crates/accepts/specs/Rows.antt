@@ -1,9 +1,8 @@
 -- The sheet's table of answer numbers: each row's number is given exactly when the row says and no number below it applies, at its first place.
 -- The rows are the entries of `rules` (judge/specs/Judge.antt), each under its sentence. Assumes nothing.
-use Rattle.std.specs.Prelude.{◌≡◌, true, List, ℕ, ◌≤◌, ℤ}
+use Rattle.std.specs.Prelude.{◌≡◌, true, List, ℕ, ◌≤◌, ℤ, Some}
 use Rattle.std.proofs.Math.Path.{refl, ap}
 use Rattle.answers.specs.Answer.{answer_of}
-use Rattle.tables.specs.declared.Found.TheVariants.{At}
 use Rattle.answers.specs.Order.{Given, given, given_is, first_of, place_for, ascending, lowest-wins}
 use Rattle.answers.specs.declared.Answer.{Answer}
 use Rattle.answers.specs.declared.Fault.{Fault}
@@ -31,5 +30,5 @@ module _ (points : List ℤ) (corners begins : List ℕ) where
   rules-ascend = refl
 
   pub lowest-number : {number a b : ℕ} → first_of (rules points corners begins) ≡ Breaks number a b
-      → (k : ℕ) {c d : ℕ} → place_for (rules points corners begins) k ≡ At c d → number ≤ k
+      → (k : ℕ) {c d : ℕ} → place_for (rules points corners begins) k ≡ Some (c, d) → number ≤ k
   lowest-number = lowest-wins (rules points corners begins) rules-ascend
