@@ -100,7 +100,7 @@ rows_0 corners begins f = record {
   rows = rw f.rows (filled_0 (entries_of corners begins 0));
   firsts = rw f.links (record {
     long = length-replicate {A = ℕ} most_vertices 0;
-    at = λ v l. blank most_vertices v;
+    at = λ v l. blank 0 most_vertices v;
     rest = λ v l k. absurd (omega arith);
   });
 }
