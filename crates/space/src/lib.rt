@@ -43,8 +43,5 @@ pub fn is_above(x: i64) -> bool
 pub fn is_zero(x: i64) -> bool
     ensures { result ≡ is_zero x }
 {
-    if is_below(x) {
-        return false;
-    }
-    !is_above(x)
+    x == 0
 }
