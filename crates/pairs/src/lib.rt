@@ -45,10 +45,5 @@ fn is_out_at(points: &[i32], i: usize) -> bool
 pub fn first_out(points: &[i32]) -> Option<usize>
     ensures { result ≡ found_below (out_of_range points.now) (count points.now) }
 {
-    for i in 0..points.len() / 2 {
-        if is_out_at(points, i) {
-            return Some(i);
-        }
-    }
-    None
+    (0..points.len() / 2).find(|&i| is_out_at(points, i))
 }

@@ -1,10 +1,11 @@
 -- `pairs::first_out` meets its contract. Assumes nothing.
-use Rattle.std.proofs.Common.{arith}
-use Rattle.whole.specs.First.{found_seen, found_miss}
+use Rattle.std.proofs.Common.{rules, refl}
+use borrow.Author.Tests.{tests}
+use Rattle.once_round.specs.Words.{out_of_range, count}
+use Rattle.pairs.specs.Search.{found_find}
 use Rattle.pairs.proofs.first_out.Goals as goal
 
-pub returns-then-is_out_at : goal.returns-then-is_out_at
-returns-then-is_out_at c = found_seen c.loop-i.invariant c.is_out_at.ensures c.if-is_out_at.true (omega arith)
-
 pub returns : goal.returns
-returns c = found_miss c.loop-i.invariant (omega arith)
+returns c =
+    let points = c.args.points.now in
+    found_find _ c.find.ensures.ran (out_of_range points) (count points) refl (λ x b q k. search (rules, tests))
