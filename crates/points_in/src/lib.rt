@@ -11,9 +11,11 @@ fn keep_point(points: &mut [i32], p: usize, tape: &[u8], i: usize)
     requires { (p + 3 ≤ length points.old) × (i + 6 ≤ length tape.now) }
     ensures { points.new ≡ sets points.old p (coords_at tape.now i) }
 {
-    points[p] = tape::signed_at(tape, i);
-    points[p + 1] = tape::signed_at(tape, i + 2);
-    points[p + 2] = tape::signed_at(tape, i + 4);
+    points[p..p + 3].copy_from_slice(&[
+        tape::signed_at(tape, i),
+        tape::signed_at(tape, i + 2),
+        tape::signed_at(tape, i + 4),
+    ]);
 }
 
 // The points of n records from `at` on.
@@ -21,9 +23,7 @@ pub fn fill_points(tape: &[u8], at: usize, points: &mut [i32], n: usize)
     requires { (at + 7 * n ≤ length tape.now) × (n * 3 ≤ length points.old) }
     ensures { points.new ≡ over (points_at tape.now at n) points.old }
 {
-    let mut v = 0;
-    while v < n {
+    for v in 0..n {
         keep_point(points, v * 3, tape, at + 7 * v + 1);
-        v += 1;
     }
 }
