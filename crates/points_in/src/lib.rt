@@ -11,11 +11,9 @@ fn keep_point(points: &mut [i32], p: usize, tape: &[u8], i: usize)
     requires { (p + 3 ≤ length points.old) × (i + 6 ≤ length tape.now) }
     ensures { points.new ≡ sets points.old p (coords_at tape.now i) }
 {
-    points[p..p + 3].copy_from_slice(&[
-        tape::signed_at(tape, i),
-        tape::signed_at(tape, i + 2),
-        tape::signed_at(tape, i + 4),
-    ]);
+    points[p] = tape::signed_at(tape, i);
+    points[p + 1] = tape::signed_at(tape, i + 2);
+    points[p + 2] = tape::signed_at(tape, i + 4);
 }
 
 // The points of n records from `at` on.
