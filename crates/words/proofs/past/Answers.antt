@@ -19,5 +19,7 @@ pub returns : goal.returns
 returns g c p h =
     let s = drop c.args.at c.args.text.now in
     let rest = rest_of c.args.text.now c.args.at c.get.result c.unwrap_or_default-rest.result c.get.ensures.lookup c.unwrap_or_default-rest.ensures in
-    let n = count_from_yields_List c.take_while.result _ c.count.ensures.ran (YieldsList-from_take_while _ p (YieldsList-from_slice s (cc)) c.take_while.ensures.closure c.take_while.ensures.done (λ x b q k. search (rules, tests, h))) in
+    let n = count_from_yields_List c.take_while.result _ c.count.ensures.ran
+    (YieldsList-from_take_while _ p (YieldsList-from_slice s (cc)) c.take_while.ensures.closure c.take_while.ensures.done
+    (λ x b q k. search (rules, tests, h))) in
     ap (λ n. c.args.at + n) (n ∙ length-prefix_len p s ∙ prefix_run p s)
