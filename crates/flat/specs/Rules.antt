@@ -10,7 +10,6 @@ use Rattle.sides.specs.Sides.{side_of, in_line, is_on}
 use Rattle.sides.specs.declared.Side.{Side}
 use Rattle.tables.specs.Facets.{in_facets}
 use Rattle.tables.specs.Search.{Search}
-use Rattle.flat.specs.Facet.{Facet}
 
 -- "A facet's plane comes from its first three corners a, b, c"
 abbrev pub side_at : List ℤ → List ℕ → ℕ → Side
