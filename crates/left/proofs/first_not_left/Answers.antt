@@ -1,5 +1,5 @@
 -- `left::first_not_left` meets its contract. Assumes nothing.
-use Rattle.std.proofs.Common.{rules, refl}
+use Rattle.std.proofs.Common.{rules}
 use borrow.Author.Tests.{tests}
 use Rattle.once_round.specs.Words.{not_left, count}
 use Rattle.pairs.specs.Search.{found_find}
@@ -8,4 +8,4 @@ use Rattle.left.proofs.first_not_left.Goals as goal
 pub returns : goal.returns
 returns c =
     let points = c.args.points.now in
-    found_find _ c.find.ensures.ran (not_left points) (count points) refl (λ x b q k. search (rules, tests))
+    found_find (not_left points) (count points) _ c.find.ensures.ran (λ x b q k. search (rules, tests))

@@ -1,5 +1,5 @@
 -- `pairs::first_out` meets its contract. Assumes nothing.
-use Rattle.std.proofs.Common.{rules, refl}
+use Rattle.std.proofs.Common.{rules}
 use borrow.Author.Tests.{tests}
 use Rattle.once_round.specs.Words.{out_of_range, count}
 use Rattle.pairs.specs.Search.{found_find}
@@ -8,4 +8,4 @@ use Rattle.pairs.proofs.first_out.Goals as goal
 pub returns : goal.returns
 returns c =
     let points = c.args.points.now in
-    found_find _ c.find.ensures.ran (out_of_range points) (count points) refl (λ x b q k. search (rules, tests))
+    found_find (out_of_range points) (count points) _ c.find.ensures.ran (λ x b q k. search (rules, tests))
