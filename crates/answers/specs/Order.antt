@@ -4,7 +4,6 @@ use Rattle.std.proofs.Math.Path.{refl}
 use Rattle.std.proofs.Common.{sym, ap, ◌∙◌, true≢false, arith, eqb-true, ltb-true}
 use mathlib.Core.List.{List, [], ◌∷◌, ◌++◌}
 use Rattle.tables.specs.Search.{Search, place_of, AppliesFirst, AppliesNever, differ, applies_first, first_applies, applies_never, never_applies}
-use Rattle.answers.specs.declared.Fault.{Fault}
 use Rattle.answers.specs.Answer.{Outcome, breaks, fault_number, some_fault, one_fault}
 
 -- a rule's number, and where it is looked for in these tables
@@ -19,25 +18,6 @@ rule number search = record { number = number; search = search }
 abbrev pub or_else : ℕ → Option (ℕ × ℕ) → Outcome → Outcome
 or_else number (Some place) later = Err (breaks number place.0 place.1)
 or_else number None later = later
-
--- r is whether a rule is passed, whose place was found: it isn't, and that is the fault, or it is, and the fault is one of the rules after it
-module _ (k : ℕ) {found place : Option (ℕ × ℕ)} {r : Outcome} (is : r ≡ or_else k found (Ok tt)) where
-  pub stops : {x : Fault} (later : Outcome) → r ≡ Err x → found ≡ place → Err x ≡ or_else k place later
-  stops {x} later e s = go place (ap (λ p. or_else k p (Ok tt)) (sym s) ∙ sym is ∙ e)
-    where
-      go : (p : Option (ℕ × ℕ)) → or_else k p (Ok tt) ≡ Err x → Err x ≡ or_else k p later
-      go (Some p) h = sym h
-      go None h = absurd (some_fault (sym h))
-
-  pub passed : r ≡ Ok tt → found ≡ place → place ≡ None
-  passed e s = go place (ap (λ p. or_else k p (Ok tt)) (sym s) ∙ sym is ∙ e)
-    where
-      go : (p : Option (ℕ × ℕ)) → or_else k p (Ok tt) ≡ Ok tt → p ≡ None
-      go (Some p) h = absurd (some_fault h)
-      go None h = refl
-
-  pub goes_on : (later : Outcome) → r ≡ Ok tt → found ≡ place → later ≡ or_else k place later
-  goes_on later e s = sym (ap (λ p. or_else k p later) (passed e s))
 
 -- "The lowest number that applies anywhere"
 unfoldable pub first_of : List Rule → Outcome

@@ -43,14 +43,21 @@ fn index(corners: &[u16], begins: &[u16], n: usize) -> Option<Place>
     requires { Laid corners.now begins.now }
     ensures { result ≡ place_of (index n corners.now begins.now) }
 {
-    tables::first_place(begins.len() - 1, |f| first_wild(tables::part(corners, begins, f), n))
+    tables::first_place(
+        begins.len() - 1,
+        |f| first_wild(tables::part(corners, begins, f), n),
+    )
 }
 
 // Numbers 1 to 3 in their order: the first fault, or none where the tables' sizes, ranges and corner numbers are in order.
+#[tactic(auto, using(tables::specs::Size::sized), unfolding(answers::specs::Order::first_of))]
 pub fn check(points: &[i32], corners: &[u16], begins: &[u16]) -> Result<(), Fault>
     ensures { result ≡ first_of (limit_rules points.now corners.now begins.now) }
 {
-    answers::pass(Refusal::Size, tables::size(points, corners, begins).then_some((0, 0)))?;
+    answers::pass(
+        Refusal::Size,
+        tables::size(points, corners, begins).then_some((0, 0)),
+    )?;
     answers::pass(Refusal::Range, range(points))?;
     answers::pass(Refusal::Index, index(corners, begins, points.len() / 3))
 }

@@ -1,7 +1,7 @@
 -- What std's searches answer, in the words of First: `find` and `any` over the numbers below n, `position` and `any` over a slice's items.
 -- A proof gives the test, the call's clause `ran`, and `λ x b q k. search (rules, tests)`: that the closure is the test. Assumes nothing.
-use Rattle.std.specs.Prelude.{◌≡◌, Bool, true, false, List, ℕ, ◌≤◌, ◌<◌, ◌-◌, Option, Some, None, length, get_or}
-use Rattle.std.proofs.Common.{refl, sym, ◌∙◌, ap, zero-le, le_refl, arith}
+use Rattle.std.specs.Prelude.{◌≡◌, Bool, true, false, List, ℕ, ◌≤◌, ◌<◌, Option, Some, None, length, get_or}
+use Rattle.std.proofs.Common.{refl, sym, ◌∙◌, zero-le, arith}
 use Rattle.std.specs.Bool.{MatchBool}
 use Rattle.std.specs.Option.{MatchOption}
 use Rattle.std.specs.Fn.{Called, CalledAt}
@@ -14,7 +14,7 @@ use Rattle.std.proofs.lemmas.Iterator.{first_from_Range, IsFirst-from_position, 
 use Rattle.std.proofs.lemmas.List.FromFn.{length-range_with_len, get_or-range_with_len}
 use denote.Param.Members.{Mut}
 use denote.Ref.{Bor}
-use Rattle.whole.specs.First.{Nowhere, found_below, any_below, pick-lowest, pick-nowhere, any_is, any_none}
+use Rattle.whole.specs.First.{found_below, any_below, pick-lowest, pick-nowhere, any_is, any_none}
 
 -- `(0..n).find(..)`
 pub found_by_find : {F : Type 0} {g : Mut F (Bor ℕ × Unit {0}) Bool} (test : ℕ → Bool) (n : ℕ) (u : _) (f : F) (r : Option ℕ)
@@ -34,7 +34,7 @@ pub found_by_position : {F : Type 0} {g : Mut F (Bor ℕ × Unit {0}) Bool} (tes
     → ((x : Bor ℕ) (b : Bool) (q : F) → Called g f (x, tt) b q → (q ≡ f) × (b ≡ test x.now)) → r ≡ found_below (λ p. test (get_or xs p 0)) (length xs)
 found_by_position test xs s u f r rest ran is =
     go r (IsFirst-from_position u f r (λ x. test x ≡ true) (λ x. test x ≡ false) ran (YieldsList-from_slice xs rest)
-        (λ x q k. sym (is x true q k).1) (λ x q k. ((is x false q k).0, sym (is x false q k).1)))
+    (λ x q k. sym (is x true q k).1) (λ x q k. ((is x false q k).0, sym (is x false q k).1)))
   where
     go : (r : Option ℕ) → MatchOption r (AllWithin (λ x. test x ≡ false) xs 0 (length xs))
         (λ i. (i < length xs) × HoldsAt (λ x. test x ≡ true) xs i × AllWithin (λ x. test x ≡ false) xs 0 i)
@@ -48,7 +48,7 @@ pub any_by_range : {F : Type 0} {g : Mut F (ℕ × Unit {0}) Bool} (test : ℕ �
     → ((x : ℕ) (b : Bool) (q : F) → Called g f (x, tt) b q → (q ≡ f) × (b ≡ test x)) → r ≡ any_below test n
 any_by_range test n u f r ran is =
     go r (cases_from_any u f r (λ x. test x ≡ true) (λ x. test x ≡ false) ran (YieldsList-from_range 0 n n refl (omega arith))
-        (λ x q k. sym (is x true q k).1) (λ x q k. ((is x false q k).0, sym (is x false q k).1)))
+    (λ x q k. sym (is x true q k).1) (λ x q k. ((is x false q k).0, sym (is x false q k).1)))
   where
     all : List ℕ
     all = range_with_len 0 n
@@ -69,7 +69,7 @@ pub any_by_items : {F : Type 0} {g : Mut F (Bor ℕ × Unit {0}) Bool} (test : �
     → ((x : Bor ℕ) (b : Bool) (q : F) → Called g f (x, tt) b q → (q ≡ f) × (b ≡ test x.now)) → r ≡ any_below (λ p. test (get_or xs p 0)) (length xs)
 any_by_items test xs s u f r rest ran is =
     go r (cases_from_any u f r (λ x. test x ≡ true) (λ x. test x ≡ false) ran (YieldsList-from_slice xs rest)
-        (λ x q k. sym (is x true q k).1) (λ x q k. ((is x false q k).0, sym (is x false q k).1)))
+    (λ x q k. sym (is x true q k).1) (λ x q k. ((is x false q k).0, sym (is x false q k).1)))
   where
     go : (r : Bool) → MatchBool r ((k : ℕ) × (k < length xs) × HoldsAt (λ x. test x ≡ true) xs k) (AllWithin (λ x. test x ≡ false) xs 0 (length xs))
         → r ≡ any_below (λ p. test (get_or xs p 0)) (length xs)
