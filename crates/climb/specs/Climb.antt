@@ -6,6 +6,7 @@ use Prim.Native.Nat.{ℕ, suc, ◌+◌, ◌-◌, ◌≤◌, ◌<◌}
 use Rattle.std.proofs.Math.ListN.{length-set}
 use Rattle.points.specs.Points.{vertices, Vertex}
 use Rattle.tables.specs.Tables.{most_vertices}
+use Rattle.index.specs.declared.Edge.{Edge}
 use Rattle.edges.specs.Index.{Leaving}
 use Rattle.flat.specs.Facet.{Measured}
 use Rattle.direction.specs.Direction.{Permitted}
@@ -18,7 +19,7 @@ use Rattle.direction.specs.declared.Direction.{Direction}
 use Rattle.climb.specs.declared.Standing.{Standing}
 
 -- what a walk asks: tables that pass 1 to 3, the index of their edges, a permitted direction, a start that there is, and room for V entries
-pub record Climbs (points : List ℤ) (corners begins : List ℕ) (edges : List (List ℕ)) (heads : List ℕ) (s : Standing) (trail : List ℕ) : Type 0 where
+pub record Climbs (points : List ℤ) (corners begins : List ℕ) (edges : List Edge) (heads : List ℕ) (s : Standing) (trail : List ℕ) : Type 0 where
   pub measured : Measured points corners begins
   pub leaving : Leaving corners begins edges heads
   pub permitted : Permitted s.direction
@@ -27,7 +28,7 @@ pub record Climbs (points : List ℤ) (corners begins : List ℕ) (edges : List 
   pub room : vertices points ≤ length trail
 
 -- a walk that begins has made no move
-pub climbs : {points : List ℤ} {corners begins : List ℕ} {edges : List (List ℕ)} {heads : List ℕ} {d : Direction} {start : ℕ} {s : Standing} {trail : List ℕ}
+pub climbs : {points : List ℤ} {corners begins : List ℕ} {edges : List Edge} {heads : List ℕ} {d : Direction} {start : ℕ} {s : Standing} {trail : List ℕ}
     → s ≡ begin points d start → Measured points corners begins → Leaving corners begins edges heads → Permitted d → Vertex points start
     → vertices points ≤ length trail → Climbs points corners begins edges heads s trail
 climbs e m l p v r = rw e (record { measured = m; leaving = l; permitted = p; vertex = v; begun = refl; room = r })
@@ -38,7 +39,7 @@ pub record Climbed (points : List ℤ) (corners begins : List ℕ) (s : Standing
   pub lists : t ≡ trailed points corners begins s.direction s.spot.vertex trail
 
 -- after k moves from s: the walk stands `here`, `next` is a step on, and the trail has the vertices stood on, over the entries that it had
-pub record Climbing (points : List ℤ) (corners begins : List ℕ) (edges : List (List ℕ)) (heads : List ℕ) (s : Standing) (lent trail : List ℕ)
+pub record Climbing (points : List ℤ) (corners begins : List ℕ) (edges : List Edge) (heads : List ℕ) (s : Standing) (lent trail : List ℕ)
     (here next : Standing) (k : ℕ) : Type 0 where
   pub climbs : Climbs points corners begins edges heads s lent
   pub going : Going points corners begins s.direction s.spot.vertex k
@@ -46,7 +47,7 @@ pub record Climbing (points : List ℤ) (corners begins : List ℕ) (edges : Lis
   pub on : next ≡ after points corners begins s.direction s.spot.vertex (suc k)
   pub wrote : trail ≡ stood points corners begins s.direction s.spot.vertex (suc k) ++ drop (suc k) lent
 
-module _ {points : List ℤ} {corners begins : List ℕ} {edges : List (List ℕ)} {heads : List ℕ} {s : Standing} {lent : List ℕ}
+module _ {points : List ℤ} {corners begins : List ℕ} {edges : List Edge} {heads : List ℕ} {s : Standing} {lent : List ℕ}
     (C : Climbs points corners begins edges heads s lent) where
   abbrev d : Direction
   d = s.direction
@@ -101,7 +102,7 @@ climbed {points} {corners} {begins} {s} {lent = lent} x C =
     let listed = stood points corners begins s.direction s.spot.vertex n in
     record { last = C.last; lists = C.lists ∙ ap (λ rest. listed ++ rest) (drop-set-lt n lent 0 x (omega arith)) }
 
-module _ {points : List ℤ} {corners begins : List ℕ} {edges : List (List ℕ)} {heads : List ℕ} {s : Standing} {lent trail : List ℕ}
+module _ {points : List ℤ} {corners begins : List ℕ} {edges : List Edge} {heads : List ℕ} {s : Standing} {lent trail : List ℕ}
     {here next : Standing} {k : ℕ} (K : Climbing points corners begins edges heads s lent trail here next k) where
   abbrev walk : ℕ → Standing
   walk = after points corners begins s.direction s.spot.vertex

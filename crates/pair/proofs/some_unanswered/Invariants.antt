@@ -1,12 +1,8 @@
--- `pair::some_unanswered` meets its contract: the law of searches, over the places of the run. Assumes nothing.
-use Rattle.std.proofs.Common.{◌-◌, length}
+-- `pair::some_unanswered` meets its contract: the law of searches over the places of the run, at the test `unanswered`. Assumes nothing.
+use Rattle.std.proofs.Common.{length}
 use Rattle.whole.specs.First.{NoneYet}
-use Rattle.edges.specs.Index.{Indexed}
 use Rattle.pair.specs.Answered.{unanswered}
 use Rattle.pair.proofs.some_unanswered.Given as goal
 
 abbrev pub invariant-loop-p : goal.invariant-loop-p
-invariant-loop-p l = NoneYet (unanswered l.corners l.begins) (length l.corners) l.p × Indexed l.corners l.begins l.edges l.heads
-
-abbrev pub decreases-loop-p : goal.decreases-loop-p
-decreases-loop-p l = length l.corners - l.p
+invariant-loop-p l = NoneYet (unanswered l.corners l.begins) (length l.corners) l.p
