@@ -1,6 +1,6 @@
 -- "Answer numbers of the solid judge": the record that judge, walk, writer and programs share, by kinds of answer. Assumes nothing.
 use Rattle.std.specs.Prelude.{◌≡◌, refl, List, ℕ, ℤ, Result, Ok, Err}
-use Rattle.std.proofs.Common.{ap, arith}
+use Rattle.std.proofs.Common.{ap}
 use Rattle.points.specs.Points.{vertices}
 use Rattle.tables.specs.Tables.{facets, edges}
 use Rattle.answers.specs.declared.Fault.{Fault}
