@@ -41,8 +41,7 @@ pub fn turn(points: &[i32], corners: &[u16], begins: &[u16]) -> Option<tables::P
     requires { Measured points.now corners.now begins.now }
     ensures { result ≡ place_of (turn points.now corners.now begins.now) }
 {
-    (0..begins.len() - 1).find_map(|f| {
-        let p = first_turn(points, tables::part(corners, begins, f))?;
-        Some((f, p))
+    tables::first_place(begins.len() - 1, |f| {
+        first_turn(points, tables::part(corners, begins, f))
     })
 }
