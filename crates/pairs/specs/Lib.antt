@@ -1,2 +1,3 @@
 -- The points of an outline: the neighbours of each in the ring.
 pub mod Neighbour
+pub mod Search

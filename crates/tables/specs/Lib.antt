@@ -5,4 +5,5 @@ pub mod Tables
 pub mod Size
 pub mod Places
 pub mod Facets
+pub mod Finds
 pub mod LookUp
