@@ -1,10 +1,10 @@
 -- A rule that looks at one facet's part of the run at a time, and the loop that finds its first place. Assumes nothing.
-use Rattle.std.specs.Prelude.{◌≡◌, Bool, List, ℕ, ◌+◌, ◌≤◌, ◌<◌, length, Some, None}
+use Rattle.std.specs.Prelude.{◌≡◌, Bool, List, ℕ, ◌+◌, ◌≤◌, ◌<◌, length, Option, Some, None}
 use Rattle.whole.specs.First.{found_below}
 use Rattle.tables.specs.Tables.{facets, sides, facet_of}
 use Rattle.tables.specs.Size.{Laid}
 use Rattle.tables.specs.Places.{part_length}
-use Rattle.tables.specs.Found.{Free, free_0, free_hit, free_more, free_all}
+use Rattle.tables.specs.Found.{Finds, Free, free_0, free_hit, free_more, free_all}
 use Rattle.tables.specs.Search.{Search, of_places, place_of}
 
 -- the test of a position, on each facet's part
@@ -33,3 +33,9 @@ module _ {corners begins : List ℕ} {test : List ℕ → ℕ → Bool} {f : ℕ
 
   pub clear_all : facets begins ≤ f → None ≡ place_of (in_facets corners begins test)
   clear_all = free_all clear.free
+
+-- what a search of one facet's part at a time finds
+pub finds_in : (test : List ℕ → ℕ → Bool) {corners begins : List ℕ} {post : ℕ → Option ℕ → Type 0} → Laid corners begins
+    → ((f : ℕ) (r : Option ℕ) → f < facets begins → post f r → r ≡ found_below (test (facet_of corners begins f)) (length (facet_of corners begins f)))
+    → Finds post (facets begins) (sides begins) (on_facets corners begins test)
+finds_in test laid h f r l e = rw (part_length laid l) at (h f r l e)

@@ -103,7 +103,11 @@ first_is {sizes} {test} {f} {p} h =
 pub no_place_is : {n : ℕ} {sizes : ℕ → ℕ} {test : ℕ → ℕ → Bool} → NoPlace n sizes test → first_place n sizes test ≡ None
 no_place_is {sizes} {test} h = sym (pick-nowhere (within sizes test) None (λ f l. any_none (test f) (sizes f) (λ p. h f p l)))
 
--- ---- a loop over n vertices or facets that has passed those before v
+-- ---- a loop over n vertices or facets that has passed those before v, and tests each
+
+-- what a test of one at a time answers
+abbrev pub Tests : (ℕ → Bool → Type 0) → ℕ → (ℕ → Bool) → Type 0
+Tests post n test = (v : ℕ) (b : Bool) → v < n → post v b → b ≡ test v
 
 module _ {n : ℕ} {test : ℕ → Bool} {v : ℕ} (yet : NoneYet test n v) where
   pub lowest-hit : test v ≡ true → v < n → Some (v, 0) ≡ lowest n test
@@ -112,7 +116,11 @@ module _ {n : ℕ} {test : ℕ → Bool} {v : ℕ} (yet : NoneYet test n v) wher
   pub lowest-end : n ≤ v → None ≡ lowest n test
   lowest-end m = miss yet m (λ v. Some (v, 0)) None
 
--- ---- a loop over n facets, of sizes f places each, that has passed those before f
+-- ---- a loop over n facets, of sizes f places each, that has passed those before f, and searches each
+
+-- what a search of one at a time finds
+abbrev pub Finds : (ℕ → Option ℕ → Type 0) → ℕ → (ℕ → ℕ) → (ℕ → ℕ → Bool) → Type 0
+Finds post n sizes test = (f : ℕ) (r : Option ℕ) → f < n → post f r → r ≡ found_below (test f) (sizes f)
 
 pub record Free (n : ℕ) (sizes : ℕ → ℕ) (test : ℕ → ℕ → Bool) (f : ℕ) : Type 0 where
   pub yet : NoneYet (somewhere sizes test) n f

@@ -1,11 +1,12 @@
 // The solid's three lent tables: their limits, number 1, SIZE, the facet look-up, and the first place at which a rule applies.
 #![tactic(auto)]
 
-ghost use Rattle.std.specs.Prelude.{◌≡◌, ◌+◌, ◌≤◌, ◌<◌, length};
+ghost use Rattle.std.specs.Prelude.{◌≡◌, Bool, ℕ, ◌+◌, ◌≤◌, ◌<◌, length};
 ghost use Rattle.whole.specs.First.{any_below};
 ghost use Rattle.whole.specs.Lies.{Lies};
 ghost use Rattle.tables.specs.Tables.{Widened, facets, begin, facet_of};
 ghost use Rattle.tables.specs.Size.{wrong_lengths, wrong_ends, wrong_sides, is_size, Laid};
+ghost use Rattle.tables.specs.Found.{lowest, Tests, first_place, Finds};
 ghost use Rattle.tables.specs.LookUp.{look_up_at, look_up};
 
 const LEAST_VERTICES: usize = 4;
@@ -95,6 +96,32 @@ pub fn part<'a>(corners: &'a [u16], begins: &[u16], f: usize) -> &'a [u16]
     let begin = wide(begins[f]);
     let end = wide(begins[f + 1]);
     &corners[begin..end]
+}
+
+// The first place of a rule that is tested at each of n vertices or facets.
+pub fn lowest<F: Fn(usize) -> bool>(n: usize, applies: F) -> Option<Place>
+    requires { (v : ℕ) → v < n → F.pre applies v }
+    ensures { (test : ℕ → Bool) → Tests (F.post applies) n test → result ≡ lowest n test }
+{
+    for v in 0..n {
+        if applies(v) {
+            return Some((v, 0));
+        }
+    }
+    None
+}
+
+// The first place of a rule that is looked for in each of n facets: `find` gives the first within one.
+pub fn first_place<F: Fn(usize) -> Option<usize>>(n: usize, find: F) -> Option<Place>
+    requires { (f : ℕ) → f < n → F.pre find f }
+    ensures { (sizes : ℕ → ℕ) → (test : ℕ → ℕ → Bool) → Finds (F.post find) n sizes test → result ≡ first_place n sizes test }
+{
+    for f in 0..n {
+        if let Some(p) = find(f) {
+            return Some((f, p));
+        }
+    }
+    None
 }
 
 // The facet look-up: the part of the lent run that has the corners of facet f, or the empty part at its beginning.

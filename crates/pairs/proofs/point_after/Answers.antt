@@ -8,9 +8,9 @@ pub returns-then-i-n : goal.returns-then-i-n
 unfolding after
 returns-then-i-n c = record { is = sym (mod-eq_of_lt c.if-i-n.true); below = search rules }
 
-pub returns : goal.returns
+pub returns-else-i-n : goal.returns-else-i-n
 unfolding after
-returns c =
+returns-else-i-n c =
     let a = c.args in
     let e : a.i + 1 ≡ a.n = omega arith in
     record { is = sym (ap (λ k. k % a.n) e ∙ mod_self a.n); below = search rules }

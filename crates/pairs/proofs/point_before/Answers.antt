@@ -11,9 +11,9 @@ returns-then-i-eq0 c =
     let e : a.i + (a.n - 1) ≡ a.n - 1 = omega arith in
     record { is = sym (ap (λ k. k % a.n) e ∙ mod-eq_of_lt (omega arith)); below = search rules }
 
-pub returns : goal.returns
+pub returns-else-i-eq0 : goal.returns-else-i-eq0
 unfolding before
-returns c =
+returns-else-i-eq0 c =
     let a = c.args in
     let e : a.i + (a.n - 1) ≡ a.i - 1 + a.n = omega arith in
     record { is = sym (ap (λ k. k % a.n) e ∙ add-mod_right (a.i - 1) a.n ∙ mod-eq_of_lt (omega arith)); below = search rules }

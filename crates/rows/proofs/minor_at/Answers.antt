@@ -1,6 +1,7 @@
 -- `rows::minor_at` meets its contract. Each number is bounded, so it is handed over as it is. Assumes nothing.
 use Rattle.std.proofs.Common.{◌∙◌, w64}
 use Rattle.whole.specs.Machine.{read_is, read-within, exact_read}
+use Rattle.space.specs.Rows.{pair_of}
 use Rattle.rows.proofs.minor_at.Goals as goal
 
 pub minor-requires : goal.minor-requires
@@ -8,7 +9,7 @@ minor-requires c =
     let (p, q, _, _) = c.requires in
     let j = c.args.j in
     let k = c.args.k in
-    (read-within w64 (p.at j) tt, read-within w64 (p.at k) tt, read-within w64 (q.at j) tt, read-within w64 (q.at k) tt)
+    (pair_of (read-within w64 (p.at j) tt) (read-within w64 (p.at k) tt), pair_of (read-within w64 (q.at j) tt) (read-within w64 (q.at k) tt))
 
 pub returns : goal.returns
 returns c =
@@ -21,5 +22,5 @@ returns c =
         is = e.is ∙ rw (read_is w64 (p.at j) tt, read_is w64 (p.at k) tt, read_is w64 (q.at j) tt, read_is w64 (q.at k) tt);
         small = e.small;
       };
-      small = λ h. read-within w64 (c.minor.ensures.small (read-within w64 (h.at j) tt) (read-within w64 (h.at k) tt)) tt;
+      small = λ h. read-within w64 (c.minor.ensures.small (pair_of (read-within w64 (h.at j) tt) (read-within w64 (h.at k) tt))) tt;
     }
