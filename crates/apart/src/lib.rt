@@ -75,10 +75,5 @@ pub fn apart(corners: &[u16], begins: &[u16], index: &index::Index) -> Option<ta
         tail: 0,
     };
     flood.reach(corners, begins, index);
-    for f in 0..begins.len() - 1 {
-        if !flood.marks[f] {
-            return Some((f, 0));
-        }
-    }
-    None
+    tables::lowest(begins.len() - 1, |f| !flood.marks[f])
 }

@@ -4,7 +4,7 @@
 ghost use Rattle.std.specs.Prelude.{◌≡◌};
 ghost use Rattle.points.specs.Points.{Vertex, Ranged};
 ghost use Rattle.direction.specs.Direction.{Permitted};
-ghost use Rattle.climb.specs.Move.{begin, step};
+ghost use Rattle.climb.specs.Move.{begin, Steps};
 ghost use Rattle.climb.specs.Best.{Best};
 ghost use Rattle.climb.specs.Ready.{Ready};
 ghost use Rattle.climb.specs.Climb.{Climbs, Climbed};
@@ -53,19 +53,25 @@ impl Standing {
     }
 
     // One step: to the highest neighbour if it is strictly higher, else none.
-    fn step(self, points: &[i32], corners: &[u16], begins: &[u16], index: &index::Index) -> Self
+    fn step(
+        self,
+        points: &[i32],
+        corners: &[u16],
+        begins: &[u16],
+        index: &index::Index,
+    ) -> Option<Self>
         requires { Ready points.now corners.now begins.now index.now.edges index.now.heads self }
-        ensures { result ≡ step points.now corners.now begins.now self }
+        ensures { Steps points.now corners.now begins.now self result }
     {
         let best = highest(points, corners, begins, index, self);
         if height::is_above(best, self.spot) {
-            Self {
+            Some(Self {
                 spot: best,
                 moves: self.moves + 1,
                 ..self
-            }
+            })
         } else {
-            self
+            None
         }
     }
 
@@ -83,11 +89,9 @@ impl Standing {
     {
         trail[0] = self.spot.vertex;
         let mut here = self;
-        let mut next = here.step(points, corners, begins, index);
-        while here.moves < next.moves {
+        while let Some(next) = here.step(points, corners, begins, index) {
             here = next;
             trail[here.moves] = here.spot.vertex;
-            next = here.step(points, corners, begins, index);
         }
         here
     }

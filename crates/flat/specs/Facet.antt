@@ -1,6 +1,7 @@
 -- What the tests of one facet ask of its part of the run, and what they have where 1 to 3 pass. Assumes nothing.
 use Rattle.std.specs.Prelude.{◌≡◌, List, ℕ, ◌+◌, ◌≤◌, ◌<◌, Bool, ℤ, length, get_or}
 use Rattle.std.proofs.Common.{arith, eq-eqb, ne_eqb}
+use Rattle.std.proofs.lemmas.List.{get_or_default}
 use Rattle.std.proofs.Math.Decide.{ℕ_discrete}
 use Rattle.points.specs.Points.{vertices, Ranged, Vertex}
 use Rattle.sides.specs.Sides.{Three}
@@ -13,6 +14,9 @@ pub record Facet (points : List ℤ) (part : List ℕ) : Type 0 where
   pub some : 3 ≤ length part
   pub few : length part ≤ most_sides
   pub named : (p : ℕ) → p < length part → Vertex points (get_or part p 0)
+
+pub corner_named : {points : List ℤ} {part : List ℕ} {c : ℕ} → Facet points part → (p : ℕ) → p < length part → c ≡ get_or part p c → Vertex points c
+corner_named {points} {part} {c} f p l e = let v = f.named p l in rw (get_or_default part p 0 c l, ← e) at v
 
 -- the corners that its plane comes from
 pub first_three : {points : List ℤ} {part : List ℕ} → Facet points part → Three points (get_or part 0 0) (get_or part 1 0) (get_or part 2 0)

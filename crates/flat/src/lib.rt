@@ -21,11 +21,7 @@ pub fn corner_after(part: &[u16], p: usize) -> u16
     requires { p < length part.now }
     ensures { result ≡ corner_after part.now p }
 {
-    let on = p + 1;
-    if on == part.len() {
-        return part[0];
-    }
-    part[on]
+    part.get(p + 1).copied().unwrap_or(part[0])
 }
 
 // The first position of a facet at which BENT applies.

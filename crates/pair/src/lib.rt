@@ -51,12 +51,7 @@ fn some_unanswered(corners: &[u16], begins: &[u16], index: &index::Index) -> boo
     requires { Indexed corners.now begins.now index.now.edges index.now.heads }
     ensures { result ≡ any_below (unanswered corners.now begins.now) (length corners.now) }
 {
-    for p in 0..corners.len() {
-        if is_unanswered(corners, begins, index, p) {
-            return true;
-        }
-    }
-    false
+    (0..corners.len()).any(|p| is_unanswered(corners, begins, index, p))
 }
 
 // PAIR place by place.

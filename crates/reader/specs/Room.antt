@@ -1,12 +1,13 @@
--- What the reader owes, by what the tape is read as, and what lent room gives. Assumes nothing.
-use Rattle.std.specs.Prelude.{◌≡◌, false, List, ℕ, ◌+◌, ◌*◌, ◌≤◌, ℤ, length}
+-- What the filling pass needs, and what lent room gives. Assumes nothing.
+use Rattle.std.specs.Prelude.{◌≡◌, Bool, true, false, cond, List, ℕ, ◌+◌, ◌*◌, ◌≤◌, ℤ, length, Ok, Err}
 use Rattle.std.proofs.Common.{arith}
 use Rattle.reading.specs.Room.{no_room, Roomy, roomy}
-use Rattle.reading.specs.Answer.{Reading}
+use Rattle.reading.specs.declared.Counts.{Counts}
+use Rattle.reading.specs.Answer.{refused_at}
 use Rattle.tape.specs.Reading.{read_tape}
 use Rattle.tape.specs.Whole.{Whole, place_0, place_rises}
 use Rattle.facets_in.specs.Filling.{Fillable}
-use Rattle.reader.specs.Answer.{reading, points_after, corners_after, begins_after}
+use Rattle.reader.specs.Answer.{reading}
 
 -- what the filling pass needs
 module _ {tape : List ℕ} {v f c : ℕ} (w : Whole tape v f c) where
@@ -30,9 +31,10 @@ module _ (tape : List ℕ) (points : List ℤ) (corners begins : List ℕ) where
   pub with_room : no_room (length points) (length corners) (length begins) ≡ false → reading tape points corners begins ≡ read_tape tape
   with_room e = rw e
 
-  -- an answer, and the tables as they are left
-  abbrev pub Owed : Reading → List ℤ → List ℕ → List ℕ → Type 0
-  Owed answer newPoints newCorners newBegins =
-      (answer ≡ reading tape points corners begins)
-      × ((newPoints ≡ points_after tape points corners begins)
-      × ((newCorners ≡ corners_after tape points corners begins) × (newBegins ≡ begins_after tape points corners begins)))
+  -- an acceptance is the tape's
+  pub read-accepted : {read : Counts} → reading tape points corners begins ≡ Ok read → read_tape tape ≡ Ok read
+  read-accepted {read} e = go (no_room (length points) (length corners) (length begins)) e
+    where
+      go : (t : Bool) → cond t (Err (refused_at 16 0)) (read_tape tape) ≡ Ok read → read_tape tape ≡ Ok read
+      go true q = let z : ◌≡◌ {A = ℕ} 0 1 = cc in absurd (omega arith)
+      go false q = q

@@ -52,10 +52,5 @@ pub fn ring(
     requires vertices { n ≤ most_vertices }
     ensures { result ≡ place_of (ring n corners.now begins.now) }
 {
-    for v in 0..n {
-        if broken(corners, begins, index, v) {
-            return Some((v, 0));
-        }
-    }
-    None
+    tables::lowest(n, |v| broken(corners, begins, index, v))
 }

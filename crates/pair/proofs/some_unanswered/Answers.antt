@@ -1,10 +1,8 @@
--- `pair::some_unanswered` meets its contract: the law of searches, over the places of the run. Assumes nothing.
-use Rattle.std.proofs.Common.{arith}
-use Rattle.whole.specs.First.{any_seen, any_miss}
+-- `pair::some_unanswered` meets its contract: the places of the run at the test `unanswered`. Assumes nothing.
+use Rattle.std.proofs.Common.{rules, tests}
+use Rattle.whole.specs.Searches.{any_by_range}
+use Rattle.pair.specs.Answered.{unanswered}
 use Rattle.pair.proofs.some_unanswered.Goals as goal
 
-pub returns-then-is_unanswered : goal.returns-then-is_unanswered
-returns-then-is_unanswered c = any_seen c.loop-p.invariant c.is_unanswered.ensures c.if-is_unanswered.true (omega arith)
-
 pub returns : goal.returns
-returns c = any_miss c.loop-p.invariant (omega arith)
+returns c = any_by_range (unanswered c.args.corners.now c.args.begins.now) _ _ _ _ c.any.ensures.ran (λ x b q k. search (rules, tests))

@@ -11,5 +11,6 @@ pub returns : goal.returns
 returns c =
     let points = c.args.points.now in
     let n = count points in
-    second (far points) n c.nth.result (nth_from_yields_List c.nth.result _ 1 c.nth.ensures.ran
-    (YieldsList-from_filter _ (far points) (YieldsList-from_range 0 n n (cc) (omega arith)) c.filter.ensures.closure (λ x b q k. search (rules, tests))))
+    let test = far points in
+    second test n c.nth.result (nth_from_yields_List c.nth.result _ 1 c.nth.ensures.ran
+    (YieldsList-from_filter _ test (YieldsList-from_range 0 n n (cc) (omega arith)) c.filter.ensures.closure (λ x b q k. search (rules, tests))))
