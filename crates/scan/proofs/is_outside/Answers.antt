@@ -1,6 +1,6 @@
 -- `scan::is_outside` meets its contract. Assumes nothing.
 use Rattle.std.proofs.Common.{rules, eqb}
-use Rattle.tables.specs.Finds.{any_in}
+use Rattle.whole.specs.Searches.{any_in}
 use Rattle.scan.specs.Rules.{is_outside}
 use Rattle.scan.proofs.is_outside.Goals as goal
 
