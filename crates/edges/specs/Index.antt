@@ -161,9 +161,6 @@ module _ {corners begins : List ℕ} {edges : List Edge} {heads : List ℕ} {f p
               rows_more S.filled (omega (arith, S.tables.laid.short)) vertex_small (Home-of S.tables.laid i) (ap (from corners) (next-now h e)) k;
         }
 
-  pub listed : length corners ≤ p → RowsHeld corners begins (length corners) 0 edges heads
-  listed l = let e : length corners ≡ p = omega (arith, S.upto) in rw e S.filled
-
 -- the rows of other places stay as they are
 same_row : (corners begins : List ℕ) (n k : ℕ) → (k ≡ n → ⊥) → entries_of corners begins n k ≡ entries_of corners begins (n + 1) k
 same_row corners begins n k d = elim (dec_lt k n) [
@@ -189,9 +186,6 @@ module _ {corners begins : List ℕ} {edges : List Edge} {heads : List ℕ} {p :
   crossing_leaving = leaving S.tables S.filled
 
   module _ (l : p < length corners) where
-    pub crossing_small : p < most_corners
-    crossing_small = omega (arith, S.tables.laid.short)
-
     pub crossing_end : {end : ℕ} → end ≡ end_at edges p → end < most_vertices
     crossing_end e = rw (e, crossing_leaving.ends p l) (to-small S.tables l)
 
@@ -206,6 +200,3 @@ module _ {corners begins : List ℕ} {edges : List Edge} {heads : List ℕ} {p :
 
       pub crossing_more : Crossing corners begins (set edges p (record (get_or edges p blank_row) { across = r })) heads (p + 1)
       crossing_more = record { tables = S.tables; upto = omega arith; filled = rows_across S.filled l S.tables.laid.short place }
-
-  pub crossed : length corners ≤ p → Indexed corners begins edges heads
-  crossed l = let e : p ≡ length corners = omega (arith, S.upto) in record { tables = S.tables; filled = rw e at S.filled }
