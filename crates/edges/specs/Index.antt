@@ -1,5 +1,5 @@
 -- The index of the edges: what its two tables hold, and the two passes that fill them. Assumes nothing.
-use Rattle.std.specs.Prelude.{◌≡◌, refl, Bool, true, false, cond, List, ℕ, ◌+◌, ◌-◌, ◌≤◌, ◌<◌, eqb, ltb, length, get_or, set}
+use Rattle.std.specs.Prelude.{◌≡◌, refl, Bool, true, false, cond, List, ℕ, ◌+◌, ◌≤◌, ◌<◌, eqb, ltb, length, get_or, set, Option, unwrap_or}
 use Rattle.std.proofs.Common.{sym, ◌∙◌, arith, length-set, get_or-set_same, get_or-set_other, eq-eqb, eqb-true, lt-ltb, le-ltb}
 use Rattle.std.proofs.Math.Path.{ap}
 use Rattle.std.proofs.Math.Decide.{dec_lt}
@@ -14,7 +14,7 @@ use Rattle.index.specs.Entries.{row, blank_row, home_at, end_at, across_at, head
 use Rattle.index.specs.declared.Edge.{Edge}
 use Rattle.edges.specs.Homes.{home_on, Upto, upto, upto_0, home_on_lem}
 use Rattle.edges.specs.Chains.{last_of, back_of, Chains}
-use Rattle.edges.specs.Edge.{is_edge, last_edge, across_of, across_is, across_below}
+use Rattle.edges.specs.Edge.{is_edge, last_edge, place_at, or_first, across_of, across_is, across_below}
 
 -- the row of place p: the place across stands in it where p is below n
 abbrev pub entries_of : List ℕ → List ℕ → ℕ → ℕ → Edge
@@ -195,10 +195,11 @@ module _ {corners begins : List ℕ} {edges : List Edge} {heads : List ℕ} {p :
     pub crossing_end : {end : ℕ} → end ≡ end_at edges p → end < most_vertices
     crossing_end e = rw (e, crossing_leaving.ends p l) (to-small S.tables l)
 
-    -- r is one less than the last link of the reverse
-    module _ {end q r : ℕ} (e : end ≡ end_at edges p) (s : q ≡ last_edge corners begins end (from corners p)) (d : r ≡ q - 1) where
+    -- r is the last place of the reverse
+    module _ {end r : ℕ} {q : Option ℕ} (e : end ≡ end_at edges p) (s : q ≡ place_at (last_edge corners begins end (from corners p)))
+        (d : r ≡ unwrap_or q 0) where
       place : r ≡ across_of corners begins p
-      place = d ∙ across_is corners begins p s (e ∙ crossing_leaving.ends p l)
+      place = or_first _ s d ∙ across_is corners begins p refl (e ∙ crossing_leaving.ends p l)
 
       pub crossing_fits : r < most_corners
       crossing_fits = omega (arith, place, across_below corners begins l, S.tables.laid.short)
