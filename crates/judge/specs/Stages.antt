@@ -1,7 +1,6 @@
 -- What is known of tables that pass the rules up to TURN, or up to REFLEX. Assumes nothing.
-use Rattle.std.specs.Prelude.{◌≡◌, refl, List, ℕ, ℤ}
+use Rattle.std.specs.Prelude.{◌≡◌, refl, List, ℕ, ℤ, None}
 use Rattle.tables.specs.Search.{place_of}
-use Rattle.tables.specs.declared.Found.TheVariants.{Nothing}
 use Rattle.answers.specs.Answer.{fault_number}
 use Rattle.answers.specs.Order.{Passes, place_for, none_for, first_of, number_0}
 use Rattle.bridge.specs.Surface.{tables_of}
@@ -17,7 +16,7 @@ use Rattle.judge.specs.Judge.{rules}
 
 -- of tables that pass 1 to 10
 module _ (points : List ℤ) (corners begins : List ℕ) (P : Passes (rules_to_turn points corners begins)) where
-  none : (k : ℕ) → place_for (rules_to_turn points corners begins) k ≡ Nothing
+  none : (k : ℕ) → place_for (rules_to_turn points corners begins) k ≡ None
   none = none_for (rules_to_turn points corners begins) P
 
   pub closed_after : Closed (tables_of points corners begins)
@@ -29,7 +28,7 @@ module _ (points : List ℤ) (corners begins : List ℕ) (P : Passes (rules_to_t
   flat_after = flat points (measured-after points corners begins P).sound.laid (none 9) (none 10)
 
   -- and REFLEX
-  pub passed-after : place_of (reflex points corners begins) ≡ Nothing → Passed points corners begins
+  pub passed-after : place_of (reflex points corners begins) ≡ None → Passed points corners begins
   passed-after e =
       let m = measured-after points corners begins P in
       record {
