@@ -13,6 +13,7 @@ use tables::Place;
 const MOST_SCANNED: usize = 24;
 
 // Number 12, OUTSIDE: its first place. Where no neighbour is outside none is, so many vertices are scanned only where one is.
+#[tactic(auto, using(crate::specs::Scannable::passed_over))]
 pub fn outside(points: &[i32], corners: &[u16], begins: &[u16], index: &Index) -> Option<Place>
     requires { Scannable points.now corners.now begins.now index.now.edges index.now.heads }
     ensures { result ≡ place_of (outside points.now corners.now begins.now) }
