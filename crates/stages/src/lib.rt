@@ -23,15 +23,13 @@ pub fn up_to_turn(
     ensures first { result ≡ first_of (rules_to_turn points.now corners.now begins.now) }
     ensures index { HandsOut (fault_number result) corners.now begins.now index.new.edges index.new.heads }
 {
+    let n = points.len() / 3;
     limits::check(points, corners, begins)?;
     answers::pass(Refusal::Repeat, names::repeat(corners, begins))?;
-    answers::pass(Refusal::Unused, names::unused(corners, points.len() / 3))?;
+    answers::pass(Refusal::Unused, names::unused(corners, n))?;
     edges::build(corners, begins, index);
     answers::pass(Refusal::Pair, pair::pair(corners, begins, index))?;
-    answers::pass(
-        Refusal::Ring,
-        ring::ring(corners, begins, index, points.len() / 3),
-    )?;
+    answers::pass(Refusal::Ring, ring::ring(corners, begins, index, n))?;
     answers::pass(Refusal::Apart, apart::apart(corners, begins, index))?;
     answers::pass(Refusal::Bent, flat::bent(points, corners, begins))?;
     answers::pass(Refusal::Turn, turn::turn(points, corners, begins))
