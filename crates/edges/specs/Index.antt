@@ -169,7 +169,8 @@ same_row corners begins n k d = elim (dec_lt k n) [
 ]
 
 rows_across : {corners begins : List ℕ} {edges : List Edge} {heads : List ℕ} {m n across : ℕ} → RowsHeld corners begins m n edges heads → n < m
-    → m ≤ most_corners → across ≡ across_of corners begins n → RowsHeld corners begins m (n + 1) (set edges n (record (get_or edges n blank_row) { across = across })) heads
+    → m ≤ most_corners → across ≡ across_of corners begins n
+    → RowsHeld corners begins m (n + 1) (set edges n (record (get_or edges n blank_row) { across = across })) heads
 rows_across {corners} {begins} {n = n} R l b e = record {
   rows = filled_again _ R.rows l b (rw (R.rows.at n l, lt-ltb n (n + 1) (omega arith), e)) (same_row corners begins n);
   firsts = R.firsts;
