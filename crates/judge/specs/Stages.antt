@@ -49,12 +49,14 @@ indexed : {corners begins : List ℕ} {edges : List Edge} {heads : List ℕ} (r 
     → Indexed corners begins edges heads
 indexed r index e = rw e at index
 
-module _ {points : List ℤ} {corners begins : List ℕ} {edges : List Edge} {heads : List ℕ} {r : Outcome} (is : r ≡ first_of (rules_to_turn points corners begins))
+module _ {points : List ℤ} {corners begins : List ℕ} {edges : List Edge} {heads : List ℕ} {r : Outcome}
+    (is : r ≡ first_of (rules_to_turn points corners begins))
     (index : HandsOut (fault_number r) corners begins edges heads) (e : r ≡ Ok tt) where
   pub foldable : Foldable points corners begins edges heads
   foldable =
       let P = sym is ∙ e in
-      record { measured = measured-after points corners begins P; crossed = record { indexed = indexed r index e; paired = paired_after points corners begins P } }
+      let paired = paired_after points corners begins P in
+      record { measured = measured-after points corners begins P; crossed = record { indexed = indexed r index e; paired = paired } }
 
   pub scannable : {found : Option (ℕ × ℕ)} {x : Outcome} → found ≡ place_of (reflex points corners begins) → x ≡ or_else 11 found (Ok tt) → x ≡ Ok tt
       → Scannable points corners begins edges heads
