@@ -8,6 +8,8 @@ ghost use Rattle.tables.specs.Search.{place_of};
 ghost use Rattle.flat.specs.Facet.{Facet, Measured, corner_after};
 ghost use Rattle.flat.specs.Rules.{side_at, is_bent, bent};
 
+use tables::Place;
+
 // The side of a facet's plane that vertex v is on.
 pub fn side_at(points: &[i32], part: &[u16], v: u16) -> sides::Side
     requires { Facet points.now part.now × Vertex points.now v }
@@ -36,7 +38,8 @@ fn first_bent(points: &[i32], part: &[u16]) -> Option<usize>
 }
 
 // Number 9, BENT: its first place.
-pub fn bent(points: &[i32], corners: &[u16], begins: &[u16]) -> Option<tables::Place>
+#[tactic(auto, using(crate::specs::Facet::facet))]
+pub fn bent(points: &[i32], corners: &[u16], begins: &[u16]) -> Option<Place>
     requires { Measured points.now corners.now begins.now }
     ensures { result ≡ place_of (bent points.now corners.now begins.now) }
 {

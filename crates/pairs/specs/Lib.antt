@@ -1,3 +1,2 @@
 -- The points of an outline: the neighbours of each in the ring.
 pub mod Neighbour
-pub mod Search

@@ -9,6 +9,7 @@ ghost use Rattle.once_round.specs.Words.{count, Point, coord_of, before, after, 
 ghost use Rattle.pairs.specs.Neighbour.{Beside};
 
 // Coordinate k of point i.
+#[tactic(auto, unfolding(once_round::specs::Words::coord_of))]
 pub fn coord(points: &[i32], i: usize, k: usize) -> i64
     requires { InRange points.now × Point points.now i × (k < 2) }
     ensures { Exact limit (coord_of points.now i k) result }
@@ -17,6 +18,7 @@ pub fn coord(points: &[i32], i: usize, k: usize) -> i64
 }
 
 // The number of the point before point i of n.
+#[tactic(auto, unfolding(once_round::specs::Words::before))]
 pub fn point_before(n: usize, i: usize) -> usize
     requires { i < n }
     ensures { Beside n (before n i) result }
@@ -25,6 +27,7 @@ pub fn point_before(n: usize, i: usize) -> usize
 }
 
 // The number of the point after point i of n.
+#[tactic(auto, unfolding(once_round::specs::Words::after))]
 pub fn point_after(n: usize, i: usize) -> usize
     requires { i < n }
     ensures { Beside n (after n i) result }

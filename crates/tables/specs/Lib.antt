@@ -5,5 +5,4 @@ pub mod Tables
 pub mod Size
 pub mod Places
 pub mod Facets
-pub mod Finds
 pub mod LookUp

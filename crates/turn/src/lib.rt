@@ -10,6 +10,8 @@ ghost use Rattle.tables.specs.Search.{place_of};
 ghost use Rattle.flat.specs.Facet.{Facet, Measured};
 ghost use Rattle.turn.specs.Rules.{strays, some_stray, is_turn, turn};
 
+use tables::Place;
+
 // Whether corner c, other than a and b, is not strictly left of the edge from a to b.
 fn strays(points: &[i32], n: [i64; 3], a: u16, b: u16, c: u16) -> bool
     requires three { Three points.now a b c }
@@ -37,7 +39,8 @@ fn first_turn(points: &[i32], part: &[u16]) -> Option<usize>
 }
 
 // Number 10, TURN: its first place.
-pub fn turn(points: &[i32], corners: &[u16], begins: &[u16]) -> Option<tables::Place>
+#[tactic(auto, using(flat::specs::Facet::facet))]
+pub fn turn(points: &[i32], corners: &[u16], begins: &[u16]) -> Option<Place>
     requires { Measured points.now corners.now begins.now }
     ensures { result ≡ place_of (turn points.now corners.now begins.now) }
 {

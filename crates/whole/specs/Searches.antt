@@ -6,27 +6,47 @@ use Rattle.std.specs.Bool.{MatchBool}
 use Rattle.std.specs.Option.{MatchOption}
 use Rattle.std.specs.Fn.{Called, CalledAt}
 use Rattle.std.specs.Iterator.{FindsItem, FindsPosition, ChecksAny}
-use Rattle.std.specs.List.{AllWithin, HoldsAt, range_with_len}
+use Rattle.std.specs.List.{AllWithin, HoldsAt, IsAnyAnswer, range_with_len}
 use Rattle.std.specs.Slice.Iter.{iter_rest}
+use Rattle.std.specs.declared.ops.Range.{Range}
 use Rattle.std.specs.declared.slice.Iter.{Iter}
 use Rattle.std.proofs.iter.Yields.{fronts, nat_range_steps}
 use Rattle.std.proofs.lemmas.Iterator.{first_from_Range, IsFirst-from_position, cases_from_any, YieldsList-from_slice, YieldsList-from_range}
 use Rattle.std.proofs.lemmas.List.FromFn.{length-range_with_len, get_or-range_with_len}
+use Rattle.std.proofs.Math.Decide.{dec_lt}
 use denote.Param.Members.{Mut}
 use denote.Ref.{Bor}
-use Rattle.whole.specs.First.{found_below, any_below, pick-lowest, pick-nowhere, any_is, any_none}
+use Rattle.whole.specs.First.{Nowhere, NoneYet, yet_0, found_below, any_below, pick-lowest, pick-nowhere, any_is, any_none}
+
+-- `(start..end).find(..)` where the test is known to hold at no position before
+module _ {F : Type 0} {g : Mut F (Bor ℕ × Unit {0}) Bool} (u : Range ℕ) {f : F} {s : Range ℕ} where
+  pub found_from : (r : Option ℕ) (test : ℕ → Bool) → FindsItem nat_range_steps g s f r u → NoneYet test s.end s.start
+      → ((x : ℕ) (b : Bool) (q : F) → CalledAt g f x b q → q ≡ f)
+      → ((x : ℕ) (b : Bool) (q : F) → CalledAt g f x b q → s.start ≤ x → x < s.end → b ≡ test x)
+      → r ≡ found_below test s.end
+  found_from r test ran yet keeps answers =
+      by r (first_from_Range s u f r Yes No ran (λ x q k l m. sym (answers x true q k l m))
+      (λ x q k. (keeps x false q k, λ l m. sym (answers x false q k l m))))
+    where
+      Yes : ℕ → Type 0
+      Yes x = s.start ≤ x → x < s.end → test x ≡ true
+
+      No : ℕ → Type 0
+      No x = s.start ≤ x → x < s.end → test x ≡ false
+
+      before : (n : ℕ) → n ≤ s.end → ((k : ℕ) → s.start ≤ k → k < n → No k) → Nowhere test n
+      before n b h k l = elim (dec_lt k s.start) [ yes m ↦ yet.before k m | no m ↦ h k (omega arith) l (omega arith) (omega arith) ]
+
+      by : (r : Option ℕ) → MatchOption r ((k : ℕ) → s.start ≤ k → k < s.end → No k)
+          (λ i. (s.start ≤ i) × (i < s.end) × Yes i × ((k : ℕ) → s.start ≤ k → k < i → No k)) → r ≡ found_below test s.end
+      by None h = pick-nowhere Some None (before s.end (omega arith) h)
+      by (Some i) (l, m, t, h) = pick-lowest Some None (record { below = m; holds = t l m; before = before i (omega arith) h })
 
 -- `(0..n).find(..)`
 pub found_by_find : {F : Type 0} {g : Mut F (Bor ℕ × Unit {0}) Bool} (test : ℕ → Bool) (n : ℕ) (u : _) (f : F) (r : Option ℕ)
     → FindsItem nat_range_steps g (record { start = 0; end = n }) f r u
     → ((x : ℕ) (b : Bool) (q : F) → CalledAt g f x b q → (q ≡ f) × (b ≡ test x)) → r ≡ found_below test n
-found_by_find test n u f r ran is =
-    go r (first_from_Range _ u f r (λ x. test x ≡ true) (λ x. test x ≡ false) ran (λ x q k. sym (is x true q k).1) (λ x q k. ((is x false q k).0, sym (is x false q k).1)))
-  where
-    go : (r : Option ℕ) → MatchOption r ((k : ℕ) → 0 ≤ k → k < n → test k ≡ false)
-        (λ i. (0 ≤ i) × (i < n) × (test i ≡ true) × ((k : ℕ) → 0 ≤ k → k < i → test k ≡ false)) → r ≡ found_below test n
-    go None h = pick-nowhere Some None (λ k l. h k zero-le l)
-    go (Some i) h = pick-lowest Some None (record { below = h.1; holds = h.2; before = λ k l. h.3 k zero-le l })
+found_by_find test n u f r ran is = found_from u r test ran yet_0 (λ x b q k. (is x b q k).0) (λ x b q k l m. (is x b q k).1)
 
 -- `xs.iter().position(..)`
 pub found_by_position : {F : Type 0} {g : Mut F (Bor ℕ × Unit {0}) Bool} (test : ℕ → Bool) (xs : List ℕ) (s u : Iter ℕ) (f : F) (r : Option ℕ)
@@ -75,3 +95,8 @@ any_by_items test xs s u f r rest ran is =
         → r ≡ any_below (λ p. test (get_or xs p 0)) (length xs)
     go true (k, l, h) = sym (any_is _ (length xs) k l (h 0))
     go false h = sym (any_none _ (length xs) (λ k l. h k 0 zero-le l))
+
+-- `xs.contains(..)`
+pub any_in : (xs : List ℕ) (test : ℕ → Bool) (r : Bool) → IsAnyAnswer (λ x b. test x ≡ b) xs r → r ≡ any_below (λ q. test (get_or xs q 0)) (length xs)
+any_in xs test true (k, l, h) = sym (any_is _ _ k l (h 0))
+any_in xs test false h = sym (any_none _ _ (λ k l. h k 0 (omega arith) l))

@@ -2,10 +2,10 @@
 use Rattle.std.proofs.Common.{rules}
 use borrow.Author.Tests.{tests}
 use Rattle.once_round.specs.Words.{not_left, count}
-use Rattle.pairs.specs.Search.{found_find}
+use Rattle.whole.specs.Searches.{found_by_find}
 use Rattle.left.proofs.first_not_left.Goals as goal
 
 pub returns : goal.returns
 returns c =
     let points = c.args.points.now in
-    found_find (not_left points) (count points) _ c.find.ensures.ran (λ x b q k. search (rules, tests))
+    found_by_find (not_left points) (count points) _ _ _ c.find.ensures.ran (λ x b q k. search (rules, tests))

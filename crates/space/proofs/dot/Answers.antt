@@ -21,6 +21,10 @@ pub overflow_add-result : goal.overflow_add-result
 unfolding result
 overflow_add-result c = fits w64 (small c.requires.normal c.requires.difference) result tt 2
 
+pub overflow_mul-result-2 : goal.overflow_mul-result-2
+unfolding result
+overflow_mul-result-2 c = fits w64 (small c.requires.normal c.requires.difference) result tt 1
+
 pub overflow_mul-result-3 : goal.overflow_mul-result-3
 unfolding result
 overflow_mul-result-3 c = fits w64 (small c.requires.normal c.requires.difference) result tt 3

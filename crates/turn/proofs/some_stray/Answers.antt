@@ -2,7 +2,7 @@
 use Rattle.std.proofs.Common.{rules}
 use Rattle.std.proofs.lemmas.Iterator.{YieldsList-from_slice}
 use Rattle.std.proofs.lemmas.Iterator.Adapters.{serves_from_places}
-use Rattle.tables.specs.Finds.{any_passes}
+use Rattle.whole.specs.Searches.{any_by_items}
 use Rattle.flat.specs.Facet.{corner_named}
 use Rattle.turn.specs.Rules.{strays, some_stray}
 use Rattle.turn.proofs.some_stray.Goals as goal
@@ -10,7 +10,7 @@ use Rattle.turn.proofs.some_stray.Goals as goal
 pub returns : goal.returns
 unfolding some_stray
 returns c =
-    any_passes _ c.args.part.now c.any.result (strays c.args.points.now c.args.n c.args.a c.args.b) c.any.ensures.ran c.iter.ensures.rest (λ x b q k. search rules)
+    any_by_items (strays c.args.points.now c.args.n c.args.a c.args.b) _ _ _ _ _ c.iter.ensures.rest c.any.ensures.ran (λ x b q k. search rules)
 
 pub any-requires-clause-callable : goal.any-requires-clause-callable
 any-requires-clause-callable c =
