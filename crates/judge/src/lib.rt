@@ -9,7 +9,7 @@ ghost use Rattle.stages.specs.HandsOut.{HandsOut};
 ghost use Rattle.judge.specs.Judge.{rules, judged};
 
 use answers::{Answer, Fault};
-use index::{Edge, Index};
+use index::Index;
 use refusals::Refusal;
 
 // The first fault of all.
@@ -50,9 +50,6 @@ pub fn judge_with_index(
 pub fn judge(points: &[i32], corners: &[u16], begins: &[u16]) -> Answer
     ensures { result ≡ judged points.now corners.now begins.now }
 {
-    let mut index = Index {
-        edges: [Edge::BLANK; tables::MOST_CORNERS],
-        heads: [0; tables::MOST_VERTICES],
-    };
+    let mut index = Index::BLANK;
     judge_with_index(points, corners, begins, &mut index)
 }

@@ -7,7 +7,7 @@ ghost use Rattle.walk.specs.Walk.{halted, arrived, walked, trail_after};
 
 use answers::Answer;
 use climb::Standing;
-use index::{Edge, Index};
+use index::Index;
 use refusals::Refusal;
 
 // The walk's answer: the number and places beside the last vertex, its height, and the moves.
@@ -62,10 +62,7 @@ pub fn walk(
     ensures trail { trail.new ≡
         trail_after points.now corners.now begins.now direction start trail.old }
 {
-    let mut index = Index {
-        edges: [Edge::BLANK; tables::MOST_CORNERS],
-        heads: [0; tables::MOST_VERTICES],
-    };
+    let mut index = Index::BLANK;
     let answer = judge::judge_with_index(points, corners, begins, &mut index);
     if answer.number != 0 {
         return Walked::halted(answer);
