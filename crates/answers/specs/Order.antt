@@ -19,6 +19,11 @@ abbrev pub or_else : ℕ → Option (ℕ × ℕ) → Outcome → Outcome
 or_else number (Some place) later = Err (breaks number place.0 place.1)
 or_else number None later = later
 
+-- a rule that passes has no place
+pub passed : (number : ℕ) (found : Option (ℕ × ℕ)) {r : Outcome} → r ≡ or_else number found (Ok tt) → r ≡ Ok tt → found ≡ None
+passed number (Some place) is e = absurd (some_fault (sym is ∙ e))
+passed number None is e = refl
+
 -- "The lowest number that applies anywhere"
 unfoldable pub first_of : List Rule → Outcome
 first_of [] = Ok tt

@@ -4,7 +4,7 @@ use Rattle.std.proofs.Common.{sym, ap, ◌∙◌, arith}
 use Rattle.whole.specs.Rounds as Rounds
 use Rattle.whole.specs.Rounds.{at, first, arc}
 use Rattle.whole.specs.Flood.{entry_at, marked, Unmarked, Queue, Pushing, Push, Spread, Flood, Flooded, SameArcs, queue_0, tail_le, pushing, push}
-use Rattle.whole.specs.Flood.{spread-0, spread-more, flood_0, flood_more, flood_end, flooded-same}
+use Rattle.whole.specs.Flood.{spread-more, flood_0, flood_more, flood_end, flooded-same}
 use Rattle.tables.specs.Tables.{most_facets, most_corners, facets, begin, end, home_of}
 use Rattle.tables.specs.Places.{In, home_is as Home-of, in_facet}
 use Rattle.index.specs.Entries.{home_at, across_at}
@@ -69,12 +69,6 @@ pub record Visiting (begins : List ℕ) (edges : List Edge) (marks : List Bool) 
   pub spread : Spreading begins edges f p marks queue tail marks' queue' n
 
 module _ {begins : List ℕ} {edges : List Edge} {marks : List Bool} {queue : List ℕ} {tail f last : ℕ} where
-  pub visiting_0 : {p : ℕ} → Visit begins edges marks queue tail f → p ≡ begin begins f → last ≡ end begins f
-      → Visiting begins edges marks queue tail f last marks queue tail p
-  visiting_0 S b e =
-      let rise = S.crossed.indexed.tables.laid.rise f (omega (arith, S.facet)) in
-      record { visit = S; ends = e; low = omega arith; high = omega arith; spread = rw b (spread-0 _ _ S.queued) }
-
   module _ {marks' : List Bool} {queue' : List ℕ} {n p : ℕ} (S : Visiting begins edges marks queue tail f last marks' queue' n p) where
     module _ (l : p < last) where
       is_in : In begins f p
@@ -120,9 +114,6 @@ module _ {begins : List ℕ} {edges : List Edge} {marks : List Bool} {queue : Li
             spread = spread-more S.spread (rw is at (push S.spread.queued facet_below reached P));
           }
 
-    pub visiting_end : last ≤ p → Spreading begins edges f (end begins f) marks queue tail marks' queue' n
-    visiting_end l = let e : end begins f ≡ p = omega (arith, S.ends, S.high) in rw e S.spread
-
 -- ---- the visits
 
 -- a mark at each facet that is reached
@@ -139,9 +130,6 @@ module _ {corners begins : List ℕ} {edges : List Edge} {heads : List ℕ} (C :
     {marks : List Bool} {queue : List ℕ} (b : Unmarked most_facets marks queue) where
   queued_0 : Queued begins edges marks queue 0
   queued_0 = queue_0 (ReachedAt begins edges) (few C) b
-
-  pub reaching_pushing : Pushing most_facets marks 0 0
-  reaching_pushing = pushing queued_0 (some C)
 
   pub reaching_0 : {marks' : List Bool} {queue' : List ℕ} {tail : ℕ} → Push marks queue 0 0 marks' queue' tail
       → Reaching corners begins edges heads marks' queue' 0 tail

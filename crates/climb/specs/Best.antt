@@ -6,7 +6,7 @@ use Rattle.std.specs.Int.Signed.{lt_z}
 use Rattle.whole.specs.Order.{≤-antisym, <-trans, lt_z_true, lt_z_false}
 use Rattle.whole.specs.First.{any_is}
 use Rattle.points.specs.Points.{Vertex, Ranged}
-use Rattle.tables.specs.Tables.{most_vertices, most_corners, from, to}
+use Rattle.tables.specs.Tables.{most_vertices, from, to}
 use Rattle.tables.specs.Places.{next-below}
 use Rattle.index.specs.Entries.{head_at, back_at, end_at}
 use Rattle.index.specs.declared.Edge.{Edge}
@@ -128,9 +128,6 @@ module _ {points : List ℤ} {corners begins : List ℕ} {edges : List Edge} {he
     place-below : q - 1 < length corners
     place-below = (link_place S.leaving S.best.on h).0
 
-    pub place-small : q - 1 < most_corners
-    place-small = (link_place S.leaving S.best.on h).1
-
     pub link_falls : back_at edges (q - 1) < q
     link_falls = falls S.leaving.chains h S.best.on
 
@@ -152,6 +149,3 @@ module _ {points : List ℤ} {corners begins : List ℕ} {edges : List Edge} {he
         permitted = S.permitted;
         best = rw end_is (best_more S.leaving.chains h S.best end-vertex place-below);
       }
-
-  pub searched : q ≤ 0 → Best points corners begins d v 0 s
-  searched l = let e : q ≡ 0 = omega arith in rw e at S.best

@@ -62,9 +62,6 @@ module _ {corners begins : List ℕ} {edges : List Edge} {heads : List ℕ} {v :
     pub counted_below : q - 1 < length corners
     counted_below = (link_place S.leaving S.met.on h).0
 
-    pub counted_small : q - 1 < most_corners
-    counted_small = (link_place S.leaving S.met.on h).1
-
     pub counted_leaves : from corners (q - 1) ≡ v
     counted_leaves = S.met.on.leads h
 

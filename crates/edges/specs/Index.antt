@@ -1,5 +1,5 @@
 -- The index of the edges: what its two tables hold, and the two passes that fill them. Assumes nothing.
-use Rattle.std.specs.Prelude.{◌≡◌, refl, Bool, true, false, cond, List, ℕ, ◌+◌, ◌-◌, ◌≤◌, ◌<◌, eqb, ltb, length, get_or, set}
+use Rattle.std.specs.Prelude.{◌≡◌, refl, Bool, true, false, cond, List, ℕ, ◌+◌, ◌≤◌, ◌<◌, eqb, ltb, length, get_or, set, Option, unwrap_or}
 use Rattle.std.proofs.Common.{sym, ◌∙◌, arith, length-set, get_or-set_same, get_or-set_other, eq-eqb, eqb-true, lt-ltb, le-ltb}
 use Rattle.std.proofs.Math.Path.{ap}
 use Rattle.std.proofs.Math.Decide.{dec_lt}
@@ -14,7 +14,7 @@ use Rattle.index.specs.Entries.{row, blank_row, home_at, end_at, across_at, head
 use Rattle.index.specs.declared.Edge.{Edge}
 use Rattle.edges.specs.Homes.{home_on, Upto, upto, upto_0, home_on_lem}
 use Rattle.edges.specs.Chains.{last_of, back_of, Chains}
-use Rattle.edges.specs.Edge.{is_edge, last_edge, across_of, across_is, across_below}
+use Rattle.edges.specs.Edge.{is_edge, last_edge, place_at, or_first, across_of, across_is, across_below}
 
 -- the row of place p: the place across stands in it where p is below n
 abbrev pub entries_of : List ℕ → List ℕ → ℕ → ℕ → Edge
@@ -161,9 +161,6 @@ module _ {corners begins : List ℕ} {edges : List Edge} {heads : List ℕ} {f p
               rows_more S.filled (omega (arith, S.tables.laid.short)) vertex_small (Home-of S.tables.laid i) (ap (from corners) (next-now h e)) k;
         }
 
-  pub listed : length corners ≤ p → RowsHeld corners begins (length corners) 0 edges heads
-  listed l = let e : length corners ≡ p = omega (arith, S.upto) in rw e S.filled
-
 -- the rows of other places stay as they are
 same_row : (corners begins : List ℕ) (n k : ℕ) → (k ≡ n → ⊥) → entries_of corners begins n k ≡ entries_of corners begins (n + 1) k
 same_row corners begins n k d = elim (dec_lt k n) [
@@ -172,7 +169,8 @@ same_row corners begins n k d = elim (dec_lt k n) [
 ]
 
 rows_across : {corners begins : List ℕ} {edges : List Edge} {heads : List ℕ} {m n across : ℕ} → RowsHeld corners begins m n edges heads → n < m
-    → m ≤ most_corners → across ≡ across_of corners begins n → RowsHeld corners begins m (n + 1) (set edges n (record (get_or edges n blank_row) { across = across })) heads
+    → m ≤ most_corners → across ≡ across_of corners begins n
+    → RowsHeld corners begins m (n + 1) (set edges n (record (get_or edges n blank_row) { across = across })) heads
 rows_across {corners} {begins} {n = n} R l b e = record {
   rows = filled_again _ R.rows l b (rw (R.rows.at n l, lt-ltb n (n + 1) (omega arith), e)) (same_row corners begins n);
   firsts = R.firsts;
@@ -189,22 +187,17 @@ module _ {corners begins : List ℕ} {edges : List Edge} {heads : List ℕ} {p :
   crossing_leaving = leaving S.tables S.filled
 
   module _ (l : p < length corners) where
-    pub crossing_small : p < most_corners
-    crossing_small = omega (arith, S.tables.laid.short)
-
     pub crossing_end : {end : ℕ} → end ≡ end_at edges p → end < most_vertices
     crossing_end e = rw (e, crossing_leaving.ends p l) (to-small S.tables l)
 
-    -- r is one less than the last link of the reverse
-    module _ {end q r : ℕ} (e : end ≡ end_at edges p) (s : q ≡ last_edge corners begins end (from corners p)) (d : r ≡ q - 1) where
+    -- r is the last place of the reverse
+    module _ {end r : ℕ} {q : Option ℕ} (e : end ≡ end_at edges p) (s : q ≡ place_at (last_edge corners begins end (from corners p)))
+        (d : r ≡ unwrap_or q 0) where
       place : r ≡ across_of corners begins p
-      place = d ∙ across_is corners begins p s (e ∙ crossing_leaving.ends p l)
+      place = or_first _ s d ∙ across_is corners begins p refl (e ∙ crossing_leaving.ends p l)
 
       pub crossing_fits : r < most_corners
       crossing_fits = omega (arith, place, across_below corners begins l, S.tables.laid.short)
 
       pub crossing_more : Crossing corners begins (set edges p (record (get_or edges p blank_row) { across = r })) heads (p + 1)
       crossing_more = record { tables = S.tables; upto = omega arith; filled = rows_across S.filled l S.tables.laid.short place }
-
-  pub crossed : length corners ≤ p → Indexed corners begins edges heads
-  crossed l = let e : p ≡ length corners = omega (arith, S.upto) in record { tables = S.tables; filled = rw e at S.filled }

@@ -6,7 +6,7 @@ ghost use Rattle.tables.specs.Tables.{most_vertices, next_in};
 ghost use Rattle.tables.specs.Places.{In};
 ghost use Rattle.index.specs.Entries.{Fresh};
 ghost use Rattle.edges.specs.Homes.{home_on};
-ghost use Rattle.edges.specs.Edge.{last_edge};
+ghost use Rattle.edges.specs.Edge.{last_edge, place_at};
 ghost use Rattle.edges.specs.Index.{RowsHeld, Indexable, Indexed, Leaving};
 
 // The facet of place p, where f is that of the place before, or the first.
@@ -55,21 +55,21 @@ fn list(corners: &[u16], begins: &[u16], index: &mut index::Index)
     }
 }
 
-// One more than the last place of the directed edge from a to b, or 0: along the chain of a.
-fn last_edge(corners: &[u16], begins: &[u16], index: &index::Index, a: u16, b: u16) -> usize
+// The last place of the directed edge from a to b: along the chain of a.
+fn last_edge(corners: &[u16], begins: &[u16], index: &index::Index, a: u16, b: u16) -> Option<usize>
     requires leaving { Leaving corners.now begins.now index.now.edges index.now.heads }
     requires vertex { a < most_vertices }
-    ensures { result ≡ last_edge corners.now begins.now a b }
+    ensures { result ≡ place_at (last_edge corners.now begins.now a b) }
 {
     let mut q = index.head(usize::from(a));
     while 0 < q {
         let p = q - 1;
         if index.end(p) == b {
-            return q;
+            return Some(p);
         }
         q = index.back(p);
     }
-    0
+    None
 }
 
 // Finds for each place the one across: the last of the reverse of its edge.
@@ -81,7 +81,7 @@ fn cross(corners: &[u16], begins: &[u16], index: &mut index::Index)
     for (p, &start) in corners.iter().enumerate() {
         let end = index.end(p);
         let q = last_edge(corners, begins, index, end, start);
-        index.edges[p].across = q.saturating_sub(1) as u16;
+        index.edges[p].across = q.unwrap_or(0) as u16;
     }
 }
 

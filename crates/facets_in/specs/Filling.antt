@@ -1,21 +1,34 @@
 -- The lent tables while facets are stored into them: each begins with what the records so far hold. Assumes nothing.
-use Rattle.std.specs.Prelude.{◌≡◌, refl, List, [], ◌∷◌, ℕ, ◌+◌, ◌-◌, ◌*◌, ◌≤◌, ◌<◌, length, get_or, take, set}
-use Rattle.std.proofs.Common.{sym, ap, ◌∙◌, arith, append_assoc, length-take-le}
-use Rattle.std.proofs.Math.Seq.{drop-drop}
-use Rattle.std.proofs.lemmas.List.Edits.{sets, sets-eq}
-use borrow.Rule.Slice.PartMut.{put_mid}
+use Rattle.std.specs.Prelude.{◌≡◌, refl, List, [], ◌∷◌, ℕ, ◌+◌, ◌*◌, ◌≤◌, ◌<◌, length, get_or, take, set}
+use Rattle.std.proofs.Common.{sym, ap, ◌∙◌, arith, add-one, length-set, take-suc, length-take-le}
+use Rattle.std.proofs.lemmas.List.Edits.{sets}
 use Rattle.tables.specs.Tables.{most_facets, most_corners, most_sides}
+use Rattle.whole.specs.Stores.{sets_append}
 use Rattle.whole.specs.Joined.{joined-0, joined-more, length-listed}
 use Rattle.whole.specs.Over.{Wrote, wrote, wrote_none, stored, over, take_over}
 use Rattle.tape.specs.Reading.{place, numbers_at, facet_from, corners_at, begins_at}
 use Rattle.tape.specs.Whole.{Facets, place_0, place_more, corners_more, length_from, facet_inside, facet_short}
 
--- ---- a part of a list, copied over
+-- ---- the first n numbers of a tray, stored from c on
 
-pub copied : (c n : ℕ) (old part : List ℕ) → length part ≡ n → c + n ≤ length old → put_mid c n old part ≡ sets old c part
-copied c n old part e h =
-    let room : c + length part ≤ length old = rw e h in
-    sym (rw (sets-eq part old c room, append_assoc, e, drop-drop))
+pub record TraySoFar (tray : List ℕ) (c n : ℕ) (old new : List ℕ) (k : ℕ) : Type 0 where
+  pub upto : k ≤ n
+  pub long : length new ≡ length old
+  pub so_far : new ≡ sets old c (take k tray)
+
+pub store_0 : (tray : List ℕ) (c n : ℕ) (old : List ℕ) → TraySoFar tray c n old old 0
+store_0 tray c n old = record { upto = omega arith; long = refl; so_far = refl }
+
+pub store_more : {tray old new : List ℕ} {c n k : ℕ} → TraySoFar tray c n old new k → n ≤ length tray → k < n
+    → TraySoFar tray c n old (set new (c + k) (get_or tray k 0)) (k + 1)
+store_more {tray} {old} {new} {c} {n} {k} t h l =
+    let b : k < length tray = omega arith in
+    let m : length (take k tray) ≡ k = length-take-le k tray (omega arith) in
+    record {
+      upto = omega arith;
+      long = simp length-set t.long;
+      so_far = rw (add-one, take-suc tray k 0 b, sets_append (take k tray) (get_or tray k 0 ∷ []) old c, m, ← t.so_far);
+    }
 
 -- ---- facets
 
@@ -78,7 +91,7 @@ module _ {s : List ℕ} {from n : ℕ} {corners₀ begins₀ corners begins tray
       let e = ap (λ (x : ℕ). set begins f x) w.count in
       rw joined-more (stored w.starts (length (corners_at s from f) ∷ []) f e (length-listed _ f) (omega (arith, w.upto, w.asked.begin_room)))
 
-  -- a facet more: gathered in the tray, and copied from there
+  -- a facet more: gathered in the tray, and stored from there
   more : {new tray' : List ℕ} → f < n → Wrote (numbers_at s (at + 1) (get_or s at 0)) tray tray' → new ≡ sets corners c (take (get_or s at 0) tray')
       → Filling s from n corners₀ begins₀ new (set begins f c) tray' (at + (1 + 2 * get_or s at 0)) (c + get_or s at 0) (f + 1)
   more {new} {tray'} l t q =
@@ -98,14 +111,9 @@ module _ {s : List ℕ} {from n : ℕ} {corners₀ begins₀ corners begins tray
         twelve = w.twelve ∙ sym t.long;
       }
 
-  pub filling_more : {part tray' : List ℕ} (m : ℕ) → f < n → m ≡ get_or s at 0 → Wrote (numbers_at s (at + 1) m) tray tray' → part ≡ take m tray'
-      → Filling s from n corners₀ begins₀ (put_mid c (c + m - c) corners part) (set begins f c) tray' (at + (1 + 2 * m)) (c + m) (f + 1)
-  filling_more {part} {tray'} m l e t q =
-      let r = reads_facet l in
-      let k : c + m - c ≡ m = omega arith in
-      let h : c + m ≤ length corners = omega (arith, r.short, w.run.long, w.asked.run_room) in
-      let p = copied c m corners (take m tray') (length-take-le m tray' (omega (arith, r.narrow, t.long, w.twelve))) h in
-      rw (k, q, p, e) (more l (rw e at t) refl)
+  pub filling_more : {m : ℕ} {new tray' : List ℕ} → f < n → m ≡ get_or s at 0 → Wrote (numbers_at s (at + 1) m) tray tray'
+      → new ≡ sets corners c (take m tray') → Filling s from n corners₀ begins₀ new (set begins f c) tray' (at + (1 + 2 * m)) (c + m) (f + 1)
+  filling_more l e t q = rw e (more l (rw e at t) (rw e at q))
 
   pub filled : f ≡ n → (corners ≡ over (corners_at s from n) corners₀) × (set begins n c ≡ over (begins_at s from (n + 1)) begins₀)
   filled e = rw (← e) (w.run.is, begun.is)

@@ -31,6 +31,12 @@ pub struct Index {
 }
 
 impl Index {
+    // What is lent to be filled.
+    pub const BLANK: Self = Self {
+        edges: [Edge::BLANK; tables::MOST_CORNERS],
+        heads: [0; tables::MOST_VERTICES],
+    };
+
     // The facet of place p.
     pub fn home(&self, p: usize) -> usize
         requires { p < most_corners }

@@ -1,10 +1,10 @@
 // What every program on a tape begins with: the tape read into tables that are lent, and how much of each is the tape's.
 #![tactic(auto)]
 
-ghost use Rattle.std.specs.Prelude.{◌≡◌};
+ghost use Rattle.std.specs.Prelude.{◌≡◌, IfOk};
 ghost use Rattle.tape.specs.Reading.{read_tape};
 ghost use Rattle.reader.specs.Answer.{points_of, corners_of, begins_of};
-ghost use Rattle.load.specs.Loaded.{loaded_of};
+ghost use Rattle.load.specs.Loaded.{loaded_of, HasEntries};
 
 // How many entries of each table are the tape's.
 #[derive(Clone, Copy)]
@@ -25,6 +25,7 @@ pub fn load(
     ensures points { points.new ≡ points_of tape.now points.old (read_tape tape.now) }
     ensures corners { corners.new ≡ corners_of tape.now corners.old (read_tape tape.now) }
     ensures begins { begins.new ≡ begins_of tape.now begins.old (read_tape tape.now) }
+    ensures entries { IfOk result (λ loaded. HasEntries loaded points.new corners.new begins.new) }
 {
     let read = reader::read_tape(tape, points, corners, begins)?;
     Ok(Loaded {

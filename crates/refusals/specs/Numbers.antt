@@ -1,7 +1,9 @@
 -- "Answer numbers": the number that the sheet gives each refusal. Assumes nothing.
 use Rattle.std.specs.Prelude.{ℕ}
 use Rattle.refusals.specs.declared.Refusal.{Refusal}
-use Rattle.refusals.specs.declared.Refusal.TheVariants.{Size, Range, Index, Repeat, Unused, Pair, Ring, Apart, Bent, Turn, Reflex, Outside, Start, Direction, Trail, Room, Kind, Order, Limit, Cut, Count, Tail, Buffer, Few, Left, Wound}
+use Rattle.refusals.specs.declared.Refusal.TheVariants.{Size, Range, Index, Repeat, Unused, Pair, Ring, Apart, Bent, Turn, Reflex, Outside}
+use Rattle.refusals.specs.declared.Refusal.TheVariants.{Start, Direction, Trail, Room, Kind, Order, Limit, Cut, Count, Tail, Buffer}
+use Rattle.refusals.specs.declared.Refusal.TheVariants.{Few, Left, Wound}
 
 abbrev pub number_of : Refusal → ℕ
 number_of Size = 1

@@ -63,9 +63,6 @@ module _ {corners begins : List ℕ} {edges : List Edge} {heads : List ℕ} (C :
 
 module _ {corners begins : List ℕ} {edges : List Edge} {heads : List ℕ} {v p q k : ℕ} (T : Circling corners begins edges heads v p q k) where
   module _ (h : 0 < k) where
-    pub turn_small : k - 1 < most_corners
-    turn_small = link_small T.crossed T.met.on h
-
     pub turn_falls : back_at edges (k - 1) < k
     turn_falls = falls (chains T.crossed) h T.met.on
 

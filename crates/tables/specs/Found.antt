@@ -2,7 +2,8 @@
 use Rattle.std.specs.Prelude.{◌≡◌, refl, Bool, true, false, cond, ℕ, ◌+◌, ◌≤◌, ◌<◌, Option, Some, None}
 use Rattle.std.proofs.Common.{sym, ◌∙◌, ap, arith, ltb-true}
 use Rattle.whole.specs.First.{first_below, any_below, pick_below, Nowhere, Lowest, first_lowest, lowest-first}
-use Rattle.whole.specs.First.{pick-lowest, pick-nowhere, found_below, found-lowest, found-nowhere, any_none, any_is, any_false, NoneYet, yet_0, yet_more, hit, miss}
+use Rattle.whole.specs.First.{pick-lowest, pick-nowhere, found_below, found-lowest, found-nowhere, any_none, any_is, any_false}
+use Rattle.whole.specs.First.{NoneYet, yet_0, yet_more, hit, miss}
 
 -- "lowest vertex", and so with facets
 abbrev pub lowest : ℕ → (ℕ → Bool) → Option (ℕ × ℕ)

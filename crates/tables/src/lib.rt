@@ -65,17 +65,11 @@ fn wrong_sides(begins: &[u16], f: usize) -> bool
 }
 
 // SIZE, at some facet.
-#[tactic(auto, using(whole::specs::First::any_seen, whole::specs::First::any_miss))]
 fn some_wrong_sides(begins: &[u16]) -> bool
     requires { 1 ≤ length begins.now }
     ensures { result ≡ any_below (wrong_sides begins.now) (facets begins.now) }
 {
-    for f in 0..begins.len() - 1 {
-        if wrong_sides(begins, f) {
-            return true;
-        }
-    }
-    false
+    (0..begins.len() - 1).any(|f| wrong_sides(begins, f))
 }
 
 // Number 1, SIZE: whether it applies.

@@ -40,7 +40,8 @@ pub record Kept (marks : List Bool) (queue : List ℕ) (tail : ℕ) (marks' : Li
   pub entry : (i : ℕ) → i < tail → entry_at queue' i ≡ entry_at queue i
   pub still : (g : ℕ) → marked marks g ≡ true → marked marks' g ≡ true
 
-pub record Pushed (size m : ℕ) (R : ℕ → Type 0) (marks : List Bool) (queue : List ℕ) (tail : ℕ) (marks' : List Bool) (queue' : List ℕ) (tail' g : ℕ) : Type 0 where
+pub record Pushed (size m : ℕ) (R : ℕ → Type 0) (marks : List Bool) (queue : List ℕ) (tail : ℕ)
+    (marks' : List Bool) (queue' : List ℕ) (tail' g : ℕ) : Type 0 where
   pub queued : Queue size m R marks' queue' tail'
   pub kept : Kept marks queue tail marks' queue' tail'
   pub is : marked marks' g ≡ true
@@ -234,8 +235,8 @@ pub record Flooded (n m : ℕ) (a b : ℕ → ℕ) (marks : List Bool) : Type 0 
   pub only : (g : ℕ) → g < m → marked marks g ≡ true → Reached n a b g
   pub all : {g : ℕ} → Reached n a b g → marked marks g ≡ true
 
-pub flood_end : {size n m : ℕ} {a b : ℕ → ℕ} {marks : List Bool} {queue : List ℕ} {head tail : ℕ} → Flood size n m a b marks queue head tail → tail ≤ head → 0 < m
-    → ((p : ℕ) → p < n → b p < m) → Flooded n m a b marks
+pub flood_end : {size n m : ℕ} {a b : ℕ → ℕ} {marks : List Bool} {queue : List ℕ} {head tail : ℕ}
+    → Flood size n m a b marks queue head tail → tail ≤ head → 0 < m → ((p : ℕ) → p < n → b p < m) → Flooded n m a b marks
 flood_end {n = n} {m = m} {a = a} {b = b} {marks = marks} F l z ends = record {
   only = λ g k e. let (i, h, q) = F.queued.listed g k e in rw q at (F.queued.reach i h);
   all = λ r. (all r).1;

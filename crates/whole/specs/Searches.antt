@@ -25,7 +25,8 @@ module _ {F : Type 0} {g : Mut F (Bor ℕ × Unit {0}) Bool} (u : Range ℕ) {f 
       → ((x : ℕ) (b : Bool) (q : F) → CalledAt g f x b q → s.start ≤ x → x < s.end → b ≡ test x)
       → r ≡ found_below test s.end
   found_from r test ran yet keeps answers =
-      by r (first_from_Range s u f r Yes No ran (λ x q k l m. sym (answers x true q k l m)) (λ x q k. (keeps x false q k, λ l m. sym (answers x false q k l m))))
+      by r (first_from_Range s u f r Yes No ran (λ x q k l m. sym (answers x true q k l m))
+      (λ x q k. (keeps x false q k, λ l m. sym (answers x false q k l m))))
     where
       Yes : ℕ → Type 0
       Yes x = s.start ≤ x → x < s.end → test x ≡ true

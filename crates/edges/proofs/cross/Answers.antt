@@ -8,8 +8,8 @@ last_edge-q-requires-clause-vertex c = crossing_end c.loop-p.invariant (omega ar
 
 pub overflow_cast-index : goal.overflow_cast-index
 overflow_cast-index c =
-    omega (arith, crossing_fits c.loop-p.invariant (omega arith) c.end-end.ensures c.last_edge-q.ensures c.saturating_sub.ensures)
+    omega (arith, crossing_fits c.loop-p.invariant (omega arith) c.end-end.ensures c.last_edge-q.ensures c.unwrap_or.ensures)
 
 pub loop-p-preserved : goal.loop-p-preserved
 loop-p-preserved c =
-    crossing_more c.loop-p.invariant (omega arith) c.end-end.ensures c.last_edge-q.ensures c.saturating_sub.ensures
+    crossing_more c.loop-p.invariant (omega arith) c.end-end.ensures c.last_edge-q.ensures c.unwrap_or.ensures

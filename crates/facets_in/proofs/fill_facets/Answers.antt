@@ -9,16 +9,17 @@ loop-f-init c = filling_0 c.requires refl
 pub gather-requires : goal.gather-requires
 gather-requires c = let t = reads_facet c.loop-f.invariant c.loop-f-test.true in (omega arith, omega arith)
 
-pub slice_bounds-copy_from_slice-end : goal.slice_bounds-copy_from_slice-end
-slice_bounds-copy_from_slice-end c =
+pub store-requires : goal.store-requires
+store-requires c =
     let t = reads_facet c.loop-f.invariant c.loop-f-test.true in
-    omega (arith, c.loop-f.invariant.run.long, c.requires.run_room)
+    let w = trayed c.args.tape.now _ _ c.gather.ensures c.loop-f.invariant.twelve (omega arith) in
+    (omega arith, omega arith)
 
 pub loop-f-preserved : goal.loop-f-preserved
 loop-f-preserved c =
     let t = reads_facet c.loop-f.invariant c.loop-f-test.true in
     let w = trayed c.args.tape.now _ _ c.gather.ensures c.loop-f.invariant.twelve (omega arith) in
-    filling_more c.loop-f.invariant _ c.loop-f-test.true c.from-sides.ensures w c.copy_from_slice.ensures.after
+    filling_more c.loop-f.invariant c.loop-f-test.true c.from-sides.ensures w c.store.ensures
 
 pub returns : goal.returns
 returns c =
