@@ -3,25 +3,18 @@
 
 ghost use Rattle.std.specs.Prelude.{◌≡◌};
 ghost use Rattle.whole.specs.First.{found_below};
-ghost use Rattle.whole.specs.Bounds.{Exact};
-ghost use Rattle.points.specs.Range.{limit, InRange};
+ghost use Rattle.points.specs.Range.{InRange};
 ghost use Rattle.once_round.specs.Words.{count, Point, point, is_greater, far, wound};
 
-// The coordinates of point i.
-fn point(points: &[i32], i: usize) -> (i64, i64)
-    requires { InRange points.now × Point points.now i }
-    ensures x { Exact limit (point points.now i).x result.0 }
-    ensures y { Exact limit (point points.now i).y result.1 }
-{
-    (pairs::coord(points, i, 0), pairs::coord(points, i, 1))
-}
-
-// Whether point a is greater than point b: by x, then by y.
+// Whether point a is greater than point b: by x, then by y, which is read only where it decides.
+#[tactic(auto, unfolding(once_round::specs::Words::is_greater))]
 fn is_greater(points: &[i32], a: usize, b: usize) -> bool
     requires { InRange points.now × Point points.now a × Point points.now b }
     ensures { result ≡ is_greater (point points.now a) (point points.now b) }
 {
-    point(points, b) < point(points, a)
+    let ax = pairs::coord(points, a, 0);
+    let bx = pairs::coord(points, b, 0);
+    bx < ax || bx == ax && pairs::coord(points, b, 1) < pairs::coord(points, a, 1)
 }
 
 // Whether point i is greater than both its neighbours.
