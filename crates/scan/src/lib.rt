@@ -17,7 +17,7 @@ pub fn is_outside(points: &[i32], part: &[u16], v: u16) -> bool
     requires { Facet points.now part.now × Vertex points.now v }
     ensures { result ≡ is_outside points.now part.now v }
 {
-    !sides::is_inside(flat::side_at(points, part, v)) && !part.contains(&v)
+    !sides::is_inside(flat::side_at(points, part, v)) && !part.iter().any(|&c| c == v)
 }
 
 // The first vertex to which OUTSIDE applies in a facet.

@@ -1,7 +1,7 @@
 -- `near::is_near` meets its contract: the search along a chain, at the test `leads_out`. Assumes nothing.
 use Rattle.std.proofs.Common.{refl, sym, ◌∙◌, arith, ◌<◌, lt-ltb}
 use Rattle.edges.specs.Index.{leaves-each}
-use Rattle.edges.specs.Along.{seeking_0, seeking_more, seeking_here, seeking_none, place-below, place-small, place-leaves, link_falls}
+use Rattle.edges.specs.Along.{seeking_0, seeking_more, seeking_here, seeking_none, place-below, place-leaves, link_falls}
 use Rattle.near.specs.Near.{is_near, vertex_small, end_named, out_here, out_within}
 use Rattle.near.proofs.is_near.Goals as goal
 
@@ -27,17 +27,8 @@ loop-q-preserved c =
     let e = out_here c.requires.neighboured (place-below i h) c.args.part.now (place-leaves i h) (rw c.end.ensures at c.is_outside.ensures) in
     rw c.back-q.ensures (seeking_more i h (e ∙ c.if-is_outside.false))
 
-pub head-q-requires : goal.head-q-requires
-head-q-requires c = rw c.from.ensures (vertex_small c.requires.neighboured c.requires.vertex)
-
-pub end-requires : goal.end-requires
-end-requires c = place-small c.loop-q.invariant (omega arith)
-
 pub is_outside-requires : goal.is_outside-requires
 is_outside-requires c = (c.requires.facet, rw c.end.ensures (end_named c.requires.neighboured (place-below c.loop-q.invariant (omega arith))))
-
-pub back-q-requires : goal.back-q-requires
-back-q-requires c = place-small c.loop-q.invariant (omega arith)
 
 pub loop-q-smaller : goal.loop-q-smaller
 loop-q-smaller c = rw c.back-q.ensures (link_falls c.loop-q.invariant (omega arith))
