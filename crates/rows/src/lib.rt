@@ -39,5 +39,5 @@ pub fn is_nought(n: [i64; 3]) -> bool
     requires { BoundedRow widest n }
     ensures { result ≡ is_nought n }
 {
-    n.into_iter().all(space::is_zero)
+    n.iter().all(|x| space::is_zero(*x))
 }
