@@ -1,9 +1,10 @@
 -- What is known of tables that pass the rules up to TURN, or up to REFLEX. Assumes nothing.
-use Rattle.std.specs.Prelude.{◌≡◌, refl, List, ℕ, ℤ, Option, None, Ok}
+use Rattle.std.specs.Prelude.{◌≡◌, refl, List, ℕ, ℤ, Option, None, Ok, Err}
 use Rattle.std.proofs.Common.{sym, ◌∙◌}
 use Rattle.tables.specs.Search.{place_of}
 use Rattle.answers.specs.Answer.{Outcome, fault_number}
-use Rattle.answers.specs.Order.{Passes, place_for, none_for, first_of, number_0, or_else, passed, none_append, rules_from}
+use Rattle.answers.specs.declared.Fault.{Fault}
+use Rattle.answers.specs.Order.{Passes, place_for, none_for, first_of, number_0, or_else, passed, first_append, none_append, rules_from}
 use Rattle.index.specs.declared.Edge.{Edge}
 use Rattle.edges.specs.Index.{Indexed}
 use Rattle.bridge.specs.Surface.{tables_of}
@@ -59,6 +60,10 @@ module _ {points : List ℤ} {corners begins : List ℕ} {edges : List Edge} {he
   pub scannable : {found : Option (ℕ × ℕ)} {x : Outcome} → found ≡ place_of (reflex points corners begins) → x ≡ or_else 11 found (Ok tt) → x ≡ Ok tt
       → Scannable points corners begins edges heads
   scannable {found} f s d = record { passed = passed-after points corners begins (sym is ∙ e) (sym f ∙ passed 11 found s d); indexed = indexed r index e }
+
+pub early : {r : Outcome} {x : Fault} (points : List ℤ) (corners begins : List ℕ) → r ≡ first_of (rules_to_turn points corners begins) → r ≡ Err x
+    → Err x ≡ first_of (rules points corners begins)
+early points corners begins is e = sym (first_append _ (rules_to_turn points corners begins) (sym is ∙ e))
 
 pub rest : {r : Outcome} (points : List ℤ) (corners begins : List ℕ) → r ≡ first_of (rules_to_turn points corners begins) → r ≡ Ok tt
     → first_of (rules points corners begins) ≡ first_of (rules_from 11 (rules points corners begins))

@@ -13,7 +13,7 @@ use index::{Edge, Index};
 use refusals::Refusal;
 
 // The first fault of all.
-#[tactic(auto, using(crate::specs::Stages::rest, answers::specs::Order::first_append), unfolding(answers::specs::Order::first_of))]
+#[tactic(auto, using(crate::specs::Stages::early, crate::specs::Stages::rest), unfolding(answers::specs::Order::first_of))]
 fn first_fault(
     points: &[i32],
     corners: &[u16],
