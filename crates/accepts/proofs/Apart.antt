@@ -1,5 +1,5 @@
 -- 8, APART: "facet can't be reached from facet 0 across edges". In tables that pass 1 to 7 it names exactly the lowest such facet. Assumes nothing.
-use Rattle.std.specs.Prelude.{◌≡◌, refl, ◌↔◌, not, List, ℕ, ◌<◌, ℤ}
+use Rattle.std.specs.Prelude.{◌≡◌, refl, ◌↔◌, not, List, ℕ, ◌<◌, ℤ, Some}
 use Rattle.std.proofs.Common.{sym, ap, ◌∙◌, true≢false, arith}
 use Rattle.std.proofs.lemmas.Bool.{not-true, not-false}
 use Rattle.whole.specs.Count.{is_false}
@@ -8,7 +8,6 @@ use Rattle.points.specs.Points.{vertices}
 use Rattle.tables.specs.Size.{Laid}
 use Rattle.tables.specs.Places.{Sound}
 use Rattle.tables.specs.Search.{place_of, applies_first, first_applies}
-use Rattle.tables.specs.declared.Found.TheVariants.{At}
 use Rattle.answers.specs.Answer.{fault}
 use Rattle.pair.specs.Pair.{Paired}
 use Rattle.apart.specs.Apart.{apart, Reached as Flood, flooded-all, flooded-only, apart-means}
@@ -42,7 +41,7 @@ module _ (points : List ℤ) (corners begins : List ℕ) where
     flood : {f : ℕ} → Reached f → Flood corners begins f
     flood = unlinked points S M
 
-    pub apart_exactly : (f : ℕ) → place_of (apart corners begins) ≡ At f 0 ↔ Apart f
+    pub apart_exactly : (f : ℕ) → place_of (apart corners begins) ≡ Some (f, 0) ↔ Apart f
     apart_exactly f = (
       λ e.
           let (h, z) = applies_first (apart corners begins) e in
@@ -62,7 +61,7 @@ module _ (points : List ℤ) (corners begins : List ℕ) where
     )
 
     -- where a facet can't be reached, some facet is named
-    named : {f : ℕ} → f < facets begins → ¬ Reached f → (a b : ℕ) × (place_of (apart corners begins) ≡ At a b)
+    named : {f : ℕ} → f < facets begins → ¬ Reached f → (a b : ℕ) × (place_of (apart corners begins) ≡ Some (a, b))
     named {f} l n = some_place (λ e. n (reached (apart-means L M e f l)))
 
   -- the judge answers 8 exactly when the tables pass 1 to 7 and some facet can't be reached ..

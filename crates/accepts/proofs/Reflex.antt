@@ -1,6 +1,6 @@
 -- 11, REFLEX: "some corner of the facet across this edge, other than the edge's ends, isn't strictly inside this facet's plane"; "lowest facet and then
 -- lowest position". In tables that pass 1 to 10 one facet stands across each edge, and REFLEX names exactly the first such place. Assumes nothing.
-use Rattle.std.specs.Prelude.{◌≡◌, ◌↔◌, ◌≢◌, cond, not, List, eqb, ℤ, length}
+use Rattle.std.specs.Prelude.{◌≡◌, ◌↔◌, ◌≢◌, cond, not, List, eqb, ℤ, length, Some}
 use Rattle.std.proofs.Math.Path.{refl}
 use Rattle.std.proofs.Common.{sym, ◌∙◌, inl, inr, arith}
 use Rattle.std.proofs.Math.Bool.{Bool, true, false, true≢false}
@@ -14,7 +14,6 @@ use Rattle.tables.specs.Tables.{facet_of}
 use Rattle.tables.specs.Size.{Laid}
 use Rattle.tables.specs.Places.{part_length}
 use Rattle.tables.specs.Search.{place_of, applies_first, first_applies, applies_never}
-use Rattle.tables.specs.declared.Found.TheVariants.{At}
 use Rattle.answers.specs.Answer.{fault}
 use Rattle.pair.specs.Pair.{Paired}
 use Rattle.flat.specs.Rules.{side_at}
@@ -120,7 +119,7 @@ module _ (points : List ℤ) (corners begins : List ℕ) where
       pub applies_exactly : Place t f p → is_reflex points corners begins f p ≡ true ↔ Reflex f p
       applies_exactly l = (applies l, test_of)
 
-    pub reflex_exactly : (f p : ℕ) → place_of (reflex points corners begins) ≡ At f p ↔ FirstReflex f p
+    pub reflex_exactly : (f p : ℕ) → place_of (reflex points corners begins) ≡ Some (f, p) ↔ FirstReflex f p
     reflex_exactly f p = (
       λ e.
           let h = applies_first (reflex points corners begins) e in
@@ -148,7 +147,7 @@ module _ (points : List ℤ) (corners begins : List ℕ) where
     )
 
     -- where it applies, some place is named
-    named : {f p : ℕ} → Reflex f p → (a b : ℕ) × (place_of (reflex points corners begins) ≡ At a b)
+    named : {f p : ℕ} → Reflex f p → (a b : ℕ) × (place_of (reflex points corners begins) ≡ Some (a, b))
     named {f} {p} r =
         some_place (λ e.
         let none = applies_never (reflex points corners begins) e in

@@ -1,17 +1,14 @@
 -- "The lowest number that applies anywhere in the tables wins. Within it, the first place wins": a number and a place are answered exactly when the
 -- tables pass every number below it and it applies first at this place. Assumes nothing.
-use Rattle.std.specs.Prelude.{◌≡◌, refl, ◌↔◌, true, List, ℕ, ◌<◌, ℤ}
+use Rattle.std.specs.Prelude.{◌≡◌, refl, ◌↔◌, true, List, ℕ, ◌<◌, ℤ, Option, Some, None, Ok, Err}
 use Rattle.std.proofs.Common.{sym, ◌∙◌, arith, eq-eqb, ne_eqb}
 use Rattle.std.proofs.Math.Path.{ap}
 use Rattle.std.proofs.Math.Decide.{dec_lt}
+use Rattle.tables.specs.Found.{one_place}
 use Rattle.tables.specs.Search.{of_all, applies_never, first_applies, differ}
 use Rattle.tables.specs.Size.{is_size}
-use Rattle.tables.specs.declared.Found.{Found}
-use Rattle.tables.specs.declared.Found.TheVariants.{At, Nothing}
-use Rattle.answers.specs.Answer.{fault, answer_of}
+use Rattle.answers.specs.Answer.{Outcome, breaks, fault, answer_of}
 use Rattle.answers.specs.Order.{Rule, Given, here, after, given, first_of, place_for, none_for, above, ascending, split, above-each, lowest-wins}
-use Rattle.answers.specs.declared.Fault.{Fault}
-use Rattle.answers.specs.declared.Fault.TheVariants.{Breaks, None}
 use Rattle.limits.specs.InOrder.{InOrder, laid}
 use Rattle.pair.specs.Pair.{Paired, pair-none}
 use Rattle.bridge.specs.Surface.{tables_of}
@@ -23,16 +20,16 @@ use Rattle.accepts.specs.Rows.{rules-ascend}
 
 -- no rule of the list with a number below n applies anywhere
 abbrev pub PassesBelow : List Rule → ℕ → Type 0
-PassesBelow rs n = (k : ℕ) → k < n → place_for rs k ≡ Nothing
+PassesBelow rs n = (k : ℕ) → k < n → place_for rs k ≡ None
 
 -- a search that doesn't find nothing finds a place
-pub some_place : {x : Found} → (x ≡ Nothing → ⊥) → (a b : ℕ) × (x ≡ At a b)
-some_place {x = At a b} h = (a, b, refl)
-some_place {x = Nothing} h = absurd (h refl)
+pub some_place : {x : Option (ℕ × ℕ)} → (x ≡ None → ⊥) → (a b : ℕ) × (x ≡ Some (a, b))
+some_place {x = Some (a, b)} h = (a, b, refl)
+some_place {x = None} h = absurd (h refl)
 
 -- ---- in a list whose numbers ascend
 
-given_place : {rs : List Rule} {k a b : ℕ} → ascending rs ≡ true → Given rs (Breaks k a b) → place_for rs k ≡ At a b
+given_place : {rs : List Rule} {k a b : ℕ} → ascending rs ≡ true → Given rs (Err (breaks k a b)) → place_for rs k ≡ Some (a, b)
 unfolding ascending
 given_place e (here {r} h) = rw (eq-eqb r.number r.number refl) (first_applies r.search h)
 given_place {k = k} e (after {r} {rs} h g) =
@@ -42,27 +39,27 @@ given_place {k = k} e (after {r} {rs} h g) =
     rw (ne_eqb r.number k (λ z. omega arith)) p
 
 module _ (rs : List Rule) (up : ascending rs ≡ true) (k a b : ℕ) where
-  first_exactly : first_of rs ≡ Breaks k a b ↔ (PassesBelow rs k × (place_for rs k ≡ At a b))
+  first_exactly : first_of rs ≡ Err (breaks k a b) ↔ (PassesBelow rs k × (place_for rs k ≡ Some (a, b)))
   first_exactly = (λ e. (below e, given_place up (rw e at (given rs))), λ (p, e). is p e (first_of rs) refl)
     where
-      below : first_of rs ≡ Breaks k a b → PassesBelow rs k
+      below : first_of rs ≡ Err (breaks k a b) → PassesBelow rs k
       below e j l = go (place_for rs j) refl
         where
-          go : (x : Found) → place_for rs j ≡ x → x ≡ Nothing
-          go (At c d) s = absurd (omega (arith, lowest-wins rs up e j s))
-          go Nothing s = refl
+          go : (x : Option (ℕ × ℕ)) → place_for rs j ≡ x → x ≡ None
+          go (Some (c, d)) s = absurd (omega (arith, lowest-wins rs up e j s))
+          go None s = refl
 
-      is : PassesBelow rs k → place_for rs k ≡ At a b → (x : Fault) → first_of rs ≡ x → x ≡ Breaks k a b
-      is p e (Breaks j c d) s =
+      is : PassesBelow rs k → place_for rs k ≡ Some (a, b) → (x : Outcome) → first_of rs ≡ x → x ≡ Err (breaks k a b)
+      is p e (Err x) s =
           let q = given_place up (rw s at (given rs)) in
-          elim (dec_lt j k) [
-            | yes l ↦ absurd (differ (sym q ∙ p j l))
+          elim (dec_lt x.number k) [
+            | yes l ↦ absurd (differ (sym q ∙ p x.number l))
             | no l ↦
-                let z : j ≡ k = omega (arith, lowest-wins rs up s k e) in
-                let w : At c d ≡ At a b = sym q ∙ ap (place_for rs) z ∙ e in
-                cc
+                let z : x.number ≡ k = omega (arith, lowest-wins rs up s k e) in
+                let (u, v) = one_place (sym q ∙ ap (place_for rs) z ∙ e) in
+                rw (← z, ← u, ← v) refl
           ]
-      is p e None s = absurd (differ (sym e ∙ none_for rs s k))
+      is p e (Ok _) s = absurd (differ (sym e ∙ none_for rs s k))
 
 -- ---- the judge's
 
@@ -73,13 +70,13 @@ module _ (points : List ℤ) (corners begins : List ℕ) where
 
   -- number k applies first at (a, b)
   abbrev pub AppliesAt : ℕ → ℕ → ℕ → Type 0
-  AppliesAt k a b = place_for (rules points corners begins) k ≡ At a b
+  AppliesAt k a b = place_for (rules points corners begins) k ≡ Some (a, b)
 
   -- an answer's number and places are those of the first fault
-  breaks : (x : Fault) {k : ℕ} → 0 < k → (answer_of points corners begins x).number ≡ k
-      → x ≡ Breaks k (answer_of points corners begins x).first (answer_of points corners begins x).second
-  breaks (Breaks j c d) l e = cc
-  breaks None l e = absurd (omega arith)
+  is_fault : (x : Outcome) {k : ℕ} → 0 < k → (answer_of points corners begins x).number ≡ k
+      → x ≡ Err (breaks k (answer_of points corners begins x).first (answer_of points corners begins x).second)
+  is_fault (Err x) l e = rw (← e) refl
+  is_fault (Ok _) l e = absurd (omega arith)
 
   module _ (k : ℕ) (l : 0 < k) where
     pub answered_exactly : (a b : ℕ) → judged points corners begins ≡ fault k a b ↔ (Pass k × AppliesAt k a b)
@@ -90,7 +87,7 @@ module _ (points : List ℤ) (corners begins : List ℕ) where
           λ e.
               let first : (answer_of points corners begins (first_of rs)).first ≡ a = ap (λ x. x.first) e in
               let second : (answer_of points corners begins (first_of rs)).second ≡ b = ap (λ x. x.second) e in
-              to (rw (first, second) at (breaks (first_of rs) l (ap (λ x. x.number) e))),
+              to (rw (first, second) at (is_fault (first_of rs) l (ap (λ x. x.number) e))),
           λ h. ap (answer_of points corners begins) (back h),
         )
 
@@ -98,7 +95,7 @@ module _ (points : List ℤ) (corners begins : List ℕ) where
     unfolding judged
     number_exactly = (
       λ e.
-          let b = breaks (first_of (rules points corners begins)) l e in
+          let b = is_fault (first_of (rules points corners begins)) l e in
           let (P, h) = (answered_exactly _ _).0 (ap (answer_of points corners begins) b) in
           (P, _, _, h),
       λ (P, a, b, h). ap (λ x. x.number) ((answered_exactly a b).1 (P, h)),

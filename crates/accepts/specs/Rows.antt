@@ -1,19 +1,16 @@
 -- The sheet's table of answer numbers: each row's number is given exactly when the row says and no number below it applies, at its first place.
 -- The rows are the entries of `rules` (judge/specs/Judge.antt), each under its sentence. Assumes nothing.
-use Rattle.std.specs.Prelude.{◌≡◌, true, List, ℕ, ◌≤◌, ℤ}
+use Rattle.std.specs.Prelude.{◌≡◌, true, List, ℕ, ◌≤◌, ℤ, Some, Err}
 use Rattle.std.proofs.Math.Path.{refl, ap}
-use Rattle.answers.specs.Answer.{answer_of}
-use Rattle.tables.specs.declared.Found.TheVariants.{At}
+use Rattle.answers.specs.Answer.{Outcome, breaks, answer_of}
 use Rattle.answers.specs.Order.{Given, given, given_is, first_of, place_for, ascending, lowest-wins}
 use Rattle.answers.specs.declared.Answer.{Answer}
-use Rattle.answers.specs.declared.Fault.{Fault}
-use Rattle.answers.specs.declared.Fault.TheVariants.{Breaks}
 use Rattle.judge.specs.Judge.{rules, judged}
 
 module _ (points : List ℤ) (corners begins : List ℕ) where
   -- an entry of the list applies, first at its place, and none before it does; or none of them applies
   pub data Row : Answer → Type 0 where
-    given_by : {fault : Fault} → Given (rules points corners begins) fault → Row (answer_of points corners begins fault)
+    given_by : {fault : Outcome} → Given (rules points corners begins) fault → Row (answer_of points corners begins fault)
 
   -- the judge's answer is a row's ..
   pub row : Row (judged points corners begins)
@@ -30,6 +27,6 @@ module _ (points : List ℤ) (corners begins : List ℕ) where
   unfolding ascending
   rules-ascend = refl
 
-  pub lowest-number : {number a b : ℕ} → first_of (rules points corners begins) ≡ Breaks number a b
-      → (k : ℕ) {c d : ℕ} → place_for (rules points corners begins) k ≡ At c d → number ≤ k
+  pub lowest-number : {number a b : ℕ} → first_of (rules points corners begins) ≡ Err (breaks number a b)
+      → (k : ℕ) {c d : ℕ} → place_for (rules points corners begins) k ≡ Some (c, d) → number ≤ k
   lowest-number = lowest-wins (rules points corners begins) rules-ascend

@@ -11,7 +11,7 @@ pub fn places(a: answers::Answer) -> lines::Line
     ensures prints { Prints result (places_of a) }
 {
     lines::line4(
-        lines::number_of(a.number as usize),
+        lines::number_of(usize::from(a.number)),
         lines::number_of(a.first),
         lines::number_of(a.second),
         lines::number_of(a.third),
@@ -26,8 +26,8 @@ pub fn moves(w: walk::Walked) -> lines::Line
     let answer = w.answer;
     let height = w.height;
     lines::line4(
-        lines::number_of(answer.number as usize),
-        lines::number_of(w.vertex as usize),
+        lines::number_of(usize::from(answer.number)),
+        lines::number_of(usize::from(w.vertex)),
         height,
         lines::number_of(w.moves),
     )

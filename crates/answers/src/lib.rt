@@ -1,15 +1,34 @@
 // The judge's record, which walk, writer and programs share: one maker for each kind of answer.
 #![tactic(auto)]
 
-ghost use Rattle.std.specs.Prelude.{◌≡◌, ◌≤◌, length};
-ghost use Rattle.answers.specs.declared.Fault.TheVariants.{None};
+ghost use Rattle.std.specs.Prelude.{◌≡◌, ◌≤◌, length, Ok};
+ghost use Rattle.refusals.specs.Numbers.{number_of};
 ghost use Rattle.answers.specs.Answer.{accepted, fault, refused, passed, of_length, at_offset, answer_of};
+ghost use Rattle.answers.specs.Order.{or_else};
 
-// The first rule that tables break, by its number, and its first place; or none.
+use refusals::Refusal;
+use tables::Place;
+
+// The first rule that tables break, by its number, and its first place.
 #[derive(Clone, Copy)]
-pub enum Fault {
-    Breaks(u16, usize, usize),
-    None,
+pub struct Fault {
+    pub number: u16,
+    pub first: usize,
+    pub second: usize,
+}
+
+// Whether tables pass a rule: not where a place was found, the first, at which it applies.
+pub fn pass(rule: Refusal, found: Option<Place>) -> Result<(), Fault>
+    ensures { result ≡ or_else (number_of rule) found (Ok tt) }
+{
+    match found {
+        Some((first, second)) => Err(Fault {
+            number: rule.number(),
+            first,
+            second,
+        }),
+        None => Ok(()),
+    }
 }
 
 // A number and three places.
@@ -75,13 +94,13 @@ impl Answer {
     }
 
     // The judge's record of the tables' first fault, or of none, from the tables.
-    pub fn of(points: &[i32], corners: &[u16], begins: &[u16], first: Fault) -> Self
-        requires { first ≡ None → 1 ≤ length begins.now }
-        ensures { result ≡ answer_of points.now corners.now begins.now first }
+    pub fn of(points: &[i32], corners: &[u16], begins: &[u16], outcome: Result<(), Fault>) -> Self
+        requires { outcome ≡ Ok tt → 1 ≤ length begins.now }
+        ensures { result ≡ answer_of points.now corners.now begins.now outcome }
     {
-        match first {
-            Fault::Breaks(number, first, second) => Self::fault(number, first, second),
-            Fault::None => Self::accepted(points.len() / 3, corners.len() / 2, begins.len() - 1),
+        match outcome {
+            Err(fault) => Self::fault(fault.number, fault.first, fault.second),
+            Ok(()) => Self::accepted(points.len() / 3, corners.len() / 2, begins.len() - 1),
         }
     }
 }

@@ -1,5 +1,5 @@
 -- Number 8, APART: "facet can't be reached from facet 0 across edges". Assumes nothing.
-use Rattle.std.specs.Prelude.{◌≡◌, Bool, true, not, List, ℕ, ◌<◌, length}
+use Rattle.std.specs.Prelude.{◌≡◌, Bool, true, not, List, ℕ, ◌<◌, length, None}
 use Rattle.std.proofs.Common.{ap, arith}
 use Rattle.std.proofs.lemmas.Bool.{not-false}
 use Rattle.whole.specs.Rounds as Rounds
@@ -9,7 +9,6 @@ use Rattle.tables.specs.Size.{Laid}
 use Rattle.tables.specs.Places.{home}
 use Rattle.tables.specs.Found.{nowhere_is}
 use Rattle.tables.specs.Search.{Search, of_each, place_of, applies_never}
-use Rattle.tables.specs.declared.Found.TheVariants.{Nothing}
 use Rattle.edges.specs.Edge.{facet_across}
 use Rattle.pair.specs.Pair.{Paired}
 use Rattle.pair.specs.Across.{across}
@@ -46,8 +45,8 @@ module _ {corners begins : List ℕ} (L : Laid corners begins) (P : Paired corne
   flooded-only e = only (length corners) (facets begins) (home_of begins) (facet_across corners begins) across_facet e
 
   -- APART finds nothing exactly where every facet is reached
-  pub apart-means : place_of (apart corners begins) ≡ Nothing → (f : ℕ) → f < facets begins → Reached corners begins f
+  pub apart-means : place_of (apart corners begins) ≡ None → (f : ℕ) → f < facets begins → Reached corners begins f
   apart-means e f l = flooded-only (not-false _ (applies_never (apart corners begins) e f l))
 
-  pub means_apart : ((f : ℕ) → f < facets begins → Reached corners begins f) → place_of (apart corners begins) ≡ Nothing
+  pub means_apart : ((f : ℕ) → f < facets begins → Reached corners begins f) → place_of (apart corners begins) ≡ None
   means_apart h = nowhere_is (λ f l. ap not (flooded-all (h f l)))

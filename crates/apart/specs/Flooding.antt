@@ -4,10 +4,11 @@ use Rattle.std.proofs.Common.{sym, ap, ◌∙◌, arith}
 use Rattle.whole.specs.Rounds as Rounds
 use Rattle.whole.specs.Rounds.{at, first, arc}
 use Rattle.whole.specs.Flood.{entry_at, marked, Unmarked, Queue, Pushing, Push, Spread, Flood, Flooded, SameArcs, queue_0, tail_le, pushing, push}
-use Rattle.whole.specs.Flood.{spread-0, spread-more, flood_0, flood_more, flood_end, flooded-same}
+use Rattle.whole.specs.Flood.{spread-more, flood_0, flood_more, flood_end, flooded-same}
 use Rattle.tables.specs.Tables.{most_facets, most_corners, facets, begin, end, home_of}
 use Rattle.tables.specs.Places.{In, home_is as Home-of, in_facet}
 use Rattle.index.specs.Entries.{home_at, across_at}
+use Rattle.index.specs.declared.Edge.{Edge}
 use Rattle.edges.specs.Edge.{facet_across}
 use Rattle.edges.specs.Index.{small, home_is, home_at-in}
 use Rattle.pair.specs.Across.{Crossed, across_small, facet_across_lem}
@@ -20,17 +21,17 @@ abbrev pub run_length : List ℕ → ℕ
 run_length begins = begin begins (facets begins)
 
 -- the facet across the edge at place p
-abbrev pub facet_across_at : List (List ℕ) → ℕ → ℕ
+abbrev pub facet_across_at : List Edge → ℕ → ℕ
 facet_across_at edges p = home_at edges (across_at edges p)
 
-abbrev pub ReachedAt : List ℕ → List (List ℕ) → ℕ → Type 0
+abbrev pub ReachedAt : List ℕ → List Edge → ℕ → Type 0
 ReachedAt begins edges = Rounds.Reached (run_length begins) (home_at edges) (facet_across_at edges)
 
 -- the queue holds the marked facets, and all are reached
-abbrev pub Queued : List ℕ → List (List ℕ) → List ℕ → List ℕ → ℕ → Type 0
+abbrev pub Queued : List ℕ → List Edge → List Bool → List ℕ → ℕ → Type 0
 Queued begins edges = Queue most_facets (facets begins) (ReachedAt begins edges)
 
-module _ {corners begins : List ℕ} {edges : List (List ℕ)} {heads : List ℕ} (C : Crossed corners begins edges heads) where
+module _ {corners begins : List ℕ} {edges : List Edge} {heads : List ℕ} (C : Crossed corners begins edges heads) where
   some : 0 < facets begins
   some = some_facet C.indexed.tables.laid C.paired
 
@@ -46,7 +47,7 @@ module _ {corners begins : List ℕ} {edges : List (List ℕ)} {heads : List ℕ
 -- ---- the visit of a facet
 
 -- facet f, one of these, is visited
-pub record Visit (begins : List ℕ) (edges : List (List ℕ)) (marks queue : List ℕ) (tail f : ℕ) : Type 0 where
+pub record Visit (begins : List ℕ) (edges : List Edge) (marks : List Bool) (queue : List ℕ) (tail f : ℕ) : Type 0 where
   pub corners : List ℕ
   pub heads : List ℕ
   pub crossed : Crossed corners begins edges heads
@@ -55,25 +56,20 @@ pub record Visit (begins : List ℕ) (edges : List (List ℕ)) (marks queue : Li
   pub reached : ReachedAt begins edges f
 
 -- the facets across its edges at the places before p were pushed
-abbrev pub Spreading : List ℕ → List (List ℕ) → ℕ → ℕ → List ℕ → List ℕ → ℕ → List ℕ → List ℕ → ℕ → Type 0
+abbrev pub Spreading : List ℕ → List Edge → ℕ → ℕ → List Bool → List ℕ → ℕ → List Bool → List ℕ → ℕ → Type 0
 Spreading begins edges f p = Spread most_facets (facets begins) (ReachedAt begins edges) (facet_across_at edges) (begin begins f) p
 
 -- the loop over its places, up to `last`
-pub record Visiting (begins : List ℕ) (edges : List (List ℕ)) (marks queue : List ℕ) (tail f last : ℕ) (marks' queue' : List ℕ) (n p : ℕ) : Type 0 where
+pub record Visiting (begins : List ℕ) (edges : List Edge) (marks : List Bool) (queue : List ℕ) (tail f last : ℕ)
+    (marks' : List Bool) (queue' : List ℕ) (n p : ℕ) : Type 0 where
   pub visit : Visit begins edges marks queue tail f
   pub ends : last ≡ end begins f
   pub low : begin begins f ≤ p
   pub high : p ≤ last
   pub spread : Spreading begins edges f p marks queue tail marks' queue' n
 
-module _ {begins : List ℕ} {edges : List (List ℕ)} {marks queue : List ℕ} {tail f last : ℕ} where
-  pub visiting_0 : {p : ℕ} → Visit begins edges marks queue tail f → p ≡ begin begins f → last ≡ end begins f
-      → Visiting begins edges marks queue tail f last marks queue tail p
-  visiting_0 S b e =
-      let rise = S.crossed.indexed.tables.laid.rise f (omega (arith, S.facet)) in
-      record { visit = S; ends = e; low = omega arith; high = omega arith; spread = rw b (spread-0 _ _ S.queued) }
-
-  module _ {marks' queue' : List ℕ} {n p : ℕ} (S : Visiting begins edges marks queue tail f last marks' queue' n p) where
+module _ {begins : List ℕ} {edges : List Edge} {marks : List Bool} {queue : List ℕ} {tail f last : ℕ} where
+  module _ {marks' : List Bool} {queue' : List ℕ} {n p : ℕ} (S : Visiting begins edges marks queue tail f last marks' queue' n p) where
     module _ (l : p < last) where
       is_in : In begins f p
       is_in = record { facet = omega (arith, S.visit.facet); low = S.low; high = omega (arith, S.ends) }
@@ -108,7 +104,7 @@ module _ {begins : List ℕ} {edges : List (List ℕ)} {marks queue : List ℕ} 
           reached : ReachedAt begins edges g
           reached = rw is (arc {p = p} (rw from_here S.visit.reached) below_run)
 
-          pub visiting_more : {marks'' queue'' : List ℕ} {n' : ℕ} → Push marks' queue' n g marks'' queue'' n'
+          pub visiting_more : {marks'' : List Bool} {queue'' : List ℕ} {n' : ℕ} → Push marks' queue' n g marks'' queue'' n'
               → Visiting begins edges marks queue tail f last marks'' queue'' n' (p + 1)
           visiting_more P = record {
             visit = S.visit;
@@ -118,33 +114,28 @@ module _ {begins : List ℕ} {edges : List (List ℕ)} {marks queue : List ℕ} 
             spread = spread-more S.spread (rw is at (push S.spread.queued facet_below reached P));
           }
 
-    pub visiting_end : last ≤ p → Spreading begins edges f (end begins f) marks queue tail marks' queue' n
-    visiting_end l = let e : end begins f ≡ p = omega (arith, S.ends, S.high) in rw e S.spread
-
 -- ---- the visits
 
 -- a mark at each facet that is reached
-abbrev pub ReachMarks : List ℕ → List ℕ → List ℕ → Type 0
+abbrev pub ReachMarks : List ℕ → List ℕ → List Bool → Type 0
 ReachMarks corners begins = Flooded (length corners) (facets begins) (home_of begins) (facet_across corners begins)
 
 -- the queue's first `head` facets were visited
-pub record Reaching (corners begins : List ℕ) (edges : List (List ℕ)) (heads marks queue : List ℕ) (head tail : ℕ) : Type 0 where
+pub record Reaching (corners begins : List ℕ) (edges : List Edge) (heads : List ℕ) (marks : List Bool) (queue : List ℕ)
+    (head tail : ℕ) : Type 0 where
   pub crossed : Crossed corners begins edges heads
   pub flood : Flood most_facets (run_length begins) (facets begins) (home_at edges) (facet_across_at edges) marks queue head tail
 
-module _ {corners begins : List ℕ} {edges : List (List ℕ)} {heads : List ℕ} (C : Crossed corners begins edges heads) {marks queue : List ℕ}
-    (b : Unmarked most_facets marks queue) where
+module _ {corners begins : List ℕ} {edges : List Edge} {heads : List ℕ} (C : Crossed corners begins edges heads)
+    {marks : List Bool} {queue : List ℕ} (b : Unmarked most_facets marks queue) where
   queued_0 : Queued begins edges marks queue 0
   queued_0 = queue_0 (ReachedAt begins edges) (few C) b
 
-  pub reaching_pushing : Pushing most_facets marks 0 0
-  reaching_pushing = pushing queued_0 (some C)
-
-  pub reaching_0 : {marks' queue' : List ℕ} {tail : ℕ} → Push marks queue 0 0 marks' queue' tail
+  pub reaching_0 : {marks' : List Bool} {queue' : List ℕ} {tail : ℕ} → Push marks queue 0 0 marks' queue' tail
       → Reaching corners begins edges heads marks' queue' 0 tail
   reaching_0 P = record { crossed = C; flood = flood_0 (push queued_0 (some C) first P) }
 
-module _ {corners begins : List ℕ} {edges : List (List ℕ)} {heads marks queue : List ℕ} {head tail : ℕ}
+module _ {corners begins : List ℕ} {edges : List Edge} {heads : List ℕ} {marks : List Bool} {queue : List ℕ} {head tail : ℕ}
     (R : Reaching corners begins edges heads marks queue head tail) where
   module _ (l : head < tail) where
     pub reaching_small : head < most_facets
@@ -165,7 +156,7 @@ module _ {corners begins : List ℕ} {edges : List (List ℕ)} {heads marks queu
         reached = rw e (R.flood.queued.reach head l);
       }
 
-      pub reaching_more : {marks' queue' : List ℕ} {tail' : ℕ} → Spreading begins edges f (end begins f) marks queue tail marks' queue' tail'
+      pub reaching_more : {marks' : List Bool} {queue' : List ℕ} {tail' : ℕ} → Spreading begins edges f (end begins f) marks queue tail marks' queue' tail'
           → Reaching corners begins edges heads marks' queue' (head + 1) tail'
       reaching_more S = record { crossed = R.crossed; flood = flood_more R.flood l range S }
         where
@@ -191,7 +182,7 @@ alike true y f g = sym (f refl)
 alike false true f g = g refl
 alike false false f g = refl
 
-pub apart-test : {corners begins : List ℕ} {edges : List (List ℕ)} {heads marks : List ℕ} {f : ℕ} → Crossed corners begins edges heads
+pub apart-test : {corners begins : List ℕ} {edges : List Edge} {heads : List ℕ} {marks : List Bool} {f : ℕ} → Crossed corners begins edges heads
     → ReachMarks corners begins marks → f < facets begins → is_apart corners begins f ≡ not (marked marks f)
 apart-test {corners} {begins} {marks = marks} {f = f} C M l =
     let L = C.indexed.tables.laid in

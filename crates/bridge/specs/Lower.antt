@@ -1,5 +1,5 @@
 -- What the numbers below leave, and the other way round: SIZE and INDEX, REPEAT, UNUSED. Assumes nothing.
-use Rattle.std.specs.Prelude.{◌≡◌, false, not, List, ℕ, ◌+◌, ◌<◌, ℤ, length, get_or}
+use Rattle.std.specs.Prelude.{◌≡◌, false, not, List, ℕ, ◌+◌, ◌<◌, ℤ, length, get_or, None}
 use Rattle.std.proofs.Common.{sym, ap, ◌∙◌, arith, eqb-true, eq-eqb, ltb-true, leb-false}
 use Rattle.std.proofs.Math.Decide.{dec_lt}
 use Rattle.std.proofs.lemmas.Bool.{eqb-false, lt-leb, not-false}
@@ -13,12 +13,11 @@ use Rattle.limits.specs.Rules.{index}
 use Rattle.names.specs.Rules.{is_at, repeat, unused}
 use Rattle.tables.specs.Found.{nowhere_is, no_place_is}
 use Rattle.tables.specs.Search.{place_of, applies_never}
-use Rattle.tables.specs.declared.Found.TheVariants.{Nothing}
 use Rattle.pair.specs.Flat.{Position, position}
 
 -- ---- INDEX: "a corner number is V or more"
 
-pub sound : {n : ℕ} {corners begins : List ℕ} → SizePassed n corners begins → place_of (index n corners begins) ≡ Nothing → Sound n corners begins
+pub sound : {n : ℕ} {corners begins : List ℕ} → SizePassed n corners begins → place_of (index n corners begins) ≡ None → Sound n corners begins
 sound {n} {corners} {begins} S e = record {
   many = S.many;
   laid = S.laid;
@@ -31,7 +30,7 @@ sound {n} {corners} {begins} S e = record {
         let tame = applies_never (index n corners begins) e f o.at o.facet o.side in
         rw o.corner at (leb-false n (corner_of corners begins f o.at) tame)
 
-pub sound_index : {n : ℕ} {corners begins : List ℕ} → Sound n corners begins → place_of (index n corners begins) ≡ Nothing
+pub sound_index : {n : ℕ} {corners begins : List ℕ} → Sound n corners begins → place_of (index n corners begins) ≡ None
 sound_index {n} {corners} {begins} S =
     no_place_is (λ f p l h.
     let below = S.named.index (begin begins f + p) (place-below S.laid l h) in
@@ -39,13 +38,13 @@ sound_index {n} {corners} {begins} S =
 
 -- from the points and SIZE
 pub all_sound : (points : List ℤ) {corners begins : List ℕ} → is_size points corners begins ≡ false
-    → place_of (index (vertices points) corners begins) ≡ Nothing → Sound (vertices points) corners begins
+    → place_of (index (vertices points) corners begins) ≡ None → Sound (vertices points) corners begins
 all_sound points {corners} {begins} e = sound (sized points corners begins e)
 
 -- ---- REPEAT: "a facet names a vertex again"
 
 module _ {corners begins : List ℕ} (L : Laid corners begins) where
-  differ : place_of (repeat corners begins) ≡ Nothing → {p q : ℕ} → q < length corners → home_of begins p ≡ home_of begins q → from corners p ≡ from corners q
+  differ : place_of (repeat corners begins) ≡ None → {p q : ℕ} → q < length corners → home_of begins p ≡ home_of begins q → from corners p ≡ from corners q
       → p < q → ⊥
   differ e {p} {q} m h s b =
       let f = home_of begins q in
@@ -56,7 +55,7 @@ module _ {corners begins : List ℕ} (L : Laid corners begins) where
       let part = facet_of corners begins f in
       eqb-false _ _ (any_false (is_at part (get_or part r.at 0)) r.at t o.at k) (rw h at o.corner ∙ s ∙ sym r.corner)
 
-  pub repeat-single : place_of (repeat corners begins) ≡ Nothing → Single corners begins
+  pub repeat-single : place_of (repeat corners begins) ≡ None → Single corners begins
   repeat-single e = record {
     repeats = λ p q l m h s. elim (dec_lt p q) [
       | yes b ↦ absurd (differ e m h s b)
@@ -64,7 +63,7 @@ module _ {corners begins : List ℕ} (L : Laid corners begins) where
     ];
   }
 
-  pub single-repeat : Single corners begins → place_of (repeat corners begins) ≡ Nothing
+  pub single-repeat : Single corners begins → place_of (repeat corners begins) ≡ None
   single-repeat S = no_place_is (λ f q l h. any_none _ q (λ p b. is_false _ (λ e.
       let k : p < sides begins f = omega arith in
       let same = sym (home_is L (place_in L l k)) ∙ home_is L (place_in L l h) in
@@ -77,14 +76,14 @@ module _ {corners begins : List ℕ} (L : Laid corners begins) where
 pub record Used (n : ℕ) (corners : List ℕ) : Type 0 where
   pub somewhere : (v : ℕ) → v < n → (p : ℕ) × (p < length corners) × (from corners p ≡ v)
 
-pub unused-used : {n : ℕ} {corners : List ℕ} → place_of (unused n corners) ≡ Nothing → Used n corners
+pub unused-used : {n : ℕ} {corners : List ℕ} → place_of (unused n corners) ≡ None → Used n corners
 unused-used {n} {corners} e = record {
   somewhere = λ v l.
       let h = ltb-true _ _ (not-false _ (applies_never (unused n corners) e v l)) in
       (first_below (is_at corners v) (length corners), h, eqb-true _ _ (first_holds (is_at corners v) (length corners) h));
 }
 
-pub used_unused : {n : ℕ} {corners : List ℕ} → Used n corners → place_of (unused n corners) ≡ Nothing
+pub used_unused : {n : ℕ} {corners : List ℕ} → Used n corners → place_of (unused n corners) ≡ None
 used_unused {corners = corners} U = nowhere_is (λ v l.
     let (p, b, e) = U.somewhere v l in
     ap not (any_is (is_at corners v) (length corners) p b (eq-eqb _ _ e)))

@@ -1,97 +1,79 @@
 // The numbers of the stored cases' text: words of digits, some with a minus sign before them.
 #![tactic(auto)]
 
-ghost use Rattle.std.specs.Prelude.{◌≤◌};
+ghost use Rattle.std.specs.Prelude.{◌≡◌, ◌≤◌, ℤ, unsigned_abs, FitsSigned};
+ghost use Rattle.std.specs.Int.{w32, FitsUnsignedBits};
 
-// A number with one digit more; 0 where it has more than 32 bits.
-fn more(n: usize, b: u8) -> usize
-    ensures { result ≤ 4294967295 }
-{
-    if 429496729 < n {
-        return 0;
-    }
-    if b < b'0' {
-        return 0;
-    }
-    let m = n * 10 + (b - b'0') as usize;
-    if 4294967295 < m {
-        return 0;
-    }
-    m
+// A number with one digit more, unless it has more than 32 bits or the byte is below the digits.
+fn more(n: u32, b: u8) -> Option<u32> {
+    let digit = b.checked_sub(b'0')?;
+    n.checked_mul(10)?.checked_add(u32::from(digit))
 }
 
-// The value of digits.
-fn digits(word: &[u8]) -> usize
-    ensures { result ≤ 4294967295 }
-{
-    let mut n = 0;
-    let mut i = 0;
-    while i < word.len() {
-        n = more(n, word[i]);
-        i += 1;
-    }
-    n
+// The value of digits, counted anew past each byte that makes none.
+fn digits(word: &[u8]) -> u32 {
+    word.iter().fold(0, |n, b| more(n, *b).unwrap_or(0))
 }
 
 // The value of a word.
-fn value(word: &[u8]) -> i64 {
-    if word.len() == 0 {
-        return 0;
-    }
-    if word[0] == b'-' {
-        return -(digits(&word[1..]) as i64);
-    }
-    digits(word) as i64
-}
-
-// A number that is at least 0 and no more than `most`; 0 for any other.
-fn natural(z: i64, most: usize) -> usize
-    ensures { result ≤ most }
+pub fn value(word: &[u8]) -> i64
+    ensures { unsigned_abs result ≤ 4294967295 }
 {
-    if z < 0 {
-        return 0;
+    match word {
+        [b'-', rest @ ..] => -i64::from(digits(rest)),
+        _ => i64::from(digits(word)),
     }
-    let n = z as usize;
-    if most < n {
-        return 0;
-    }
-    n
 }
 
-// A number of 32 bits with sign; the least for any below, 0 for any above.
-fn signed(z: i64) -> i32 {
-    if z < -2147483647 {
-        return -2147483648;
-    }
-    if 2147483647 < z {
-        return 0;
-    }
-    z as i32
+// A number as the stored cases have it.
+pub trait Number {
+    // Which values the type holds, and as which number.
+    ghost holds: { ℤ → Type 0 };
+
+    ghost held: { ℤ → Self };
+
+    // The number of a value; for one that the type doesn't hold, what stands for it.
+    fn of(value: i64) -> Self
+        ensures { holds value → result ≡ held value };
 }
 
-// The number at the place where the text goes on, which moves past it; 0 at the text's end.
-fn next(text: &[u8], at: &mut usize) -> i64 {
-    let part = words::next(text, &words::BLANKS, *at);
-    let start = part.start;
-    let end = part.end;
-    *at = end;
-    if end < start {
-        return 0;
+impl Number for u8 {
+    ghost holds = { FitsUnsignedBits 8 };
+
+    ghost held = { unsigned_abs };
+
+    fn of(value: i64) -> u8 {
+        u8::try_from(value).unwrap_or(0)
     }
-    if text.len() < end {
-        return 0;
-    }
-    value(&text[start..end])
 }
 
-// The next number as one of at most so much.
-pub fn next_natural(text: &[u8], at: &mut usize, most: usize) -> usize
-    ensures { result ≤ most }
-{
-    natural(next(text, at), most)
+impl Number for u16 {
+    ghost holds = { FitsUnsignedBits 16 };
+
+    ghost held = { unsigned_abs };
+
+    fn of(value: i64) -> u16 {
+        u16::try_from(value).unwrap_or(0)
+    }
 }
 
-// The next number as one of 32 bits with sign.
-pub fn next_signed(text: &[u8], at: &mut usize) -> i32 {
-    signed(next(text, at))
+impl Number for u32 {
+    ghost holds = { FitsUnsignedBits 32 };
+
+    ghost held = { unsigned_abs };
+
+    fn of(value: i64) -> u32 {
+        u32::try_from(value).unwrap_or(0)
+    }
+}
+
+// The least number stands for any value below it, 0 for any above.
+impl Number for i32 {
+    ghost holds = { FitsSigned w32 };
+
+    ghost held = { λ z. z };
+
+    fn of(value: i64) -> i32 {
+        i32::try_from(value).unwrap_or(if value < 0 { i32::MIN } else { 0 })
+    }
 }

@@ -2,9 +2,10 @@
 // The answer is printed on one line, and after it what stands in the lent tables.
 #![tactic(auto)]
 
-ghost use Rattle.std.specs.Prelude.{ℕ, List};
-ghost use Rattle.std.specs.Io.KnownBytes.{Appends};
+ghost use Rattle.std.specs.Prelude.{◌≡◌};
+ghost use Rattle.case_show.specs.Grows.{Grows};
 
+use case_lists::{Tables, Text};
 use std::io;
 use std::io::Write;
 
@@ -13,73 +14,70 @@ const LIST: usize = 400;
 
 const TAPE: usize = 13000;
 
-// J, W, F, T: reads a solid's tables, then runs the case of a letter on them. Where the text goes on.
-fn solid_case<W: Write>(writer: &mut W, letter: u8, text: &[u8], from: usize) -> io::Result<usize>
-    ensures { (bs : List ℕ) × Appends (W.contents writer.old) (W.contents writer.new) bs }
-{
-    let mut at = from;
-    let mut points = [0i32; LIST];
-    let p = case_lists::fill_points(text, &mut at, &mut points);
-    let mut corners = [0u16; LIST];
-    let c = case_lists::fill_shorts(text, &mut at, &mut corners);
-    let mut begins = [0u16; LIST];
-    let b = case_lists::fill_shorts(text, &mut at, &mut begins);
-    let points = &points[..p];
-    let corners = &corners[..c];
-    let begins = &begins[..b];
-    match letter {
-        b'W' => case_walk::walk_case(writer, text, at, points, corners, begins),
-        b'F' => case_facet::facet_case(writer, text, at, points, corners, begins),
-        b'T' => case_write::write_case(writer, text, at, points, corners, begins),
-        _ => {
-            case_judge::judge_case(writer, points, corners, begins)?;
-            Ok(at)
+// Room for what a case begins with.
+#[derive(Drop)]
+struct Room {
+    points: [i32; LIST],
+    corners: [u16; LIST],
+    begins: [u16; LIST],
+    tape: [u8; TAPE],
+}
+
+impl Room {
+    fn tables(&mut self, text: &mut Text) -> Tables<'_>
+        ensures { text.new.bytes ≡ text.old.bytes }
+    {
+        let p = case_lists::fill(text, &mut self.points);
+        let c = case_lists::fill(text, &mut self.corners);
+        let b = case_lists::fill(text, &mut self.begins);
+        Tables {
+            points: &self.points[..p],
+            corners: &self.corners[..c],
+            begins: &self.begins[..b],
         }
+    }
+
+    fn tape(&mut self, text: &mut Text) -> &[u8]
+        ensures { text.new.bytes ≡ text.old.bytes }
+    {
+        let n = case_lists::fill(text, &mut self.tape);
+        &self.tape[..n]
     }
 }
 
-// L, M, R: reads a tape, then runs the case of a letter on it. Where the text goes on.
-fn tape_case<W: Write>(writer: &mut W, letter: u8, text: &[u8], from: usize) -> io::Result<usize>
-    ensures { (bs : List ℕ) × Appends (W.contents writer.old) (W.contents writer.new) bs }
+// Runs the case that begins with the next word, if there is one.
+fn case<W: Write>(writer: &mut W, text: &mut Text) -> io::Result<()>
+    ensures grows { Grows (W.contents writer.old) (W.contents writer.new) }
+    ensures same { text.new.bytes ≡ text.old.bytes }
 {
-    let mut at = from;
-    let mut tape = [0u8; TAPE];
-    let n = case_lists::fill_bytes(text, &mut at, &mut tape);
-    let tape = &tape[..n];
+    let Some(letter) = text.letter() else {
+        return Ok(());
+    };
+    let mut room = Room {
+        points: [0; LIST],
+        corners: [0; LIST],
+        begins: [0; LIST],
+        tape: [0; TAPE],
+    };
     match letter {
-        b'R' => case_read::read_case(writer, text, at, tape),
-        b'M' => case_line::walking_case(writer, text, at, tape),
-        _ => {
-            case_line::judging_case(writer, tape)?;
-            Ok(at)
-        }
+        b'O' => case_judge::outline_case(writer, text),
+        b'L' => case_line::judging_case(writer, room.tape(text)),
+        b'M' => case_line::walking_case(writer, room.tape(text), text),
+        b'R' => case_read::read_case(writer, room.tape(text), text),
+        b'W' => case_walk::walk_case(writer, room.tables(text), text),
+        b'F' => case_facet::facet_case(writer, room.tables(text), text),
+        b'T' => case_write::write_case(writer, room.tables(text), text),
+        _ => case_judge::judge_case(writer, room.tables(text)),
     }
-}
-
-// Runs the case that begins with the next word. Where the text goes on.
-fn case<W: Write>(writer: &mut W, text: &[u8], at: usize) -> io::Result<usize>
-    ensures { (bs : List ℕ) × Appends (W.contents writer.old) (W.contents writer.new) bs }
-{
-    let part = words::next(text, &words::BLANKS, at);
-    let start = part.start;
-    if start < text.len() {
-        let letter = text[start];
-        return match letter {
-            b'O' => case_judge::outline_case(writer, text, start + 1),
-            b'L' | b'M' | b'R' => tape_case(writer, letter, text, start + 1),
-            _ => solid_case(writer, letter, text, start + 1),
-        };
-    }
-    Ok(start)
 }
 
 // Runs all cases of the text; it has no more of them than bytes.
 pub fn run<W: Write>(writer: &mut W, text: &[u8]) -> io::Result<()>
-    ensures { (bs : List ℕ) × Appends (W.contents writer.old) (W.contents writer.new) bs }
+    ensures { Grows (W.contents writer.old) (W.contents writer.new) }
 {
-    let mut at = 0;
-    for _ in 0..text.len() {
-        at = case(writer, text, at)?;
+    let mut rest = Text { bytes: text, at: 0 };
+    for _ in text {
+        case(writer, &mut rest)?;
     }
     Ok(())
 }

@@ -8,9 +8,6 @@ const TEXT: usize = 400000;
 
 fn main(rt: HostRuntime) -> io::Result<()> {
     let mut text = [0u8; TEXT];
-    let taken = streams::read_all(&mut rt.reader(), &mut text);
-    if let Some(error) = taken.failed {
-        return Err(error);
-    }
-    cases::run(&mut io::writer(&rt), &text[..taken.len])
+    let len = streams::read_all(&mut rt.reader(), &mut text)?;
+    cases::run(&mut io::writer(&rt), &text[..len])
 }

@@ -6,9 +6,10 @@ use Rattle.std.specs.Int.Signed.{lt_z}
 use Rattle.whole.specs.Order.{≤-antisym, <-trans, lt_z_true, lt_z_false}
 use Rattle.whole.specs.First.{any_is}
 use Rattle.points.specs.Points.{Vertex, Ranged}
-use Rattle.tables.specs.Tables.{most_vertices, most_corners, from, to}
+use Rattle.tables.specs.Tables.{most_vertices, from, to}
 use Rattle.tables.specs.Places.{next-below}
 use Rattle.index.specs.Entries.{head_at, back_at, end_at}
+use Rattle.index.specs.declared.Edge.{Edge}
 use Rattle.edges.specs.Chains.{Chains, On, on_0, on_more, falls, gap_0, gap_more}
 use Rattle.edges.specs.Edge.{is_edge}
 use Rattle.edges.specs.Index.{Leaving}
@@ -69,7 +70,7 @@ pub end-neighbour : (corners begins : List ℕ) {v p : ℕ} → p < length corne
 end-neighbour corners begins {v} {p} l e =
     any_is (is_edge corners begins v (to corners begins p)) (length corners) p l (rw (eq-eqb _ _ e, eq-eqb _ _ refl))
 
-module _ {points : List ℤ} {corners begins : List ℕ} {d : Direction} {edges : List (List ℕ)} {heads : List ℕ}
+module _ {points : List ℤ} {corners begins : List ℕ} {d : Direction} {edges : List Edge} {heads : List ℕ}
     (C : Chains corners edges heads (length corners)) where
   best_0 : {s : Spot} → s.vertex < most_vertices → Placed points d s → Best points corners begins d s.vertex (head_at heads s.vertex) s
   best_0 l h = record {
@@ -105,13 +106,13 @@ module _ {points : List ℤ} {corners begins : List ℕ} {d : Direction} {edges 
 
 -- ---- the search, at link q of the chain of v
 
-pub record Searching (points : List ℤ) (corners begins : List ℕ) (edges : List (List ℕ)) (heads : List ℕ) (d : Direction) (v q : ℕ) (s : Spot) : Type 0 where
+pub record Searching (points : List ℤ) (corners begins : List ℕ) (edges : List Edge) (heads : List ℕ) (d : Direction) (v q : ℕ) (s : Spot) : Type 0 where
   pub measured : Measured points corners begins
   pub leaving : Leaving corners begins edges heads
   pub permitted : Permitted d
   pub best : Best points corners begins d v q s
 
-pub searching_0 : {points : List ℤ} {corners begins : List ℕ} {edges : List (List ℕ)} {heads : List ℕ} {here : Standing}
+pub searching_0 : {points : List ℤ} {corners begins : List ℕ} {edges : List Edge} {heads : List ℕ} {here : Standing}
     → Ready points corners begins edges heads here
     → Searching points corners begins edges heads here.direction here.spot.vertex (head_at heads here.spot.vertex) here.spot
 searching_0 R = record {
@@ -121,14 +122,11 @@ searching_0 R = record {
   best = best_0 R.leaving.chains (small R) R.placed;
 }
 
-module _ {points : List ℤ} {corners begins : List ℕ} {edges : List (List ℕ)} {heads : List ℕ} {d : Direction} {v q : ℕ} {s : Spot}
+module _ {points : List ℤ} {corners begins : List ℕ} {edges : List Edge} {heads : List ℕ} {d : Direction} {v q : ℕ} {s : Spot}
     (S : Searching points corners begins edges heads d v q s) where
   module _ (h : 0 < q) where
     place-below : q - 1 < length corners
     place-below = (link_place S.leaving S.best.on h).0
-
-    pub place-small : q - 1 < most_corners
-    place-small = (link_place S.leaving S.best.on h).1
 
     pub link_falls : back_at edges (q - 1) < q
     link_falls = falls S.leaving.chains h S.best.on
@@ -151,6 +149,3 @@ module _ {points : List ℤ} {corners begins : List ℕ} {edges : List (List ℕ
         permitted = S.permitted;
         best = rw end_is (best_more S.leaving.chains h S.best end-vertex place-below);
       }
-
-  pub searched : q ≤ 0 → Best points corners begins d v 0 s
-  searched l = let e : q ≡ 0 = omega arith in rw e at S.best

@@ -1,5 +1,5 @@
 -- "The walk": the neighbour that a move leads to, and the step, which moves there or stops. Assumes nothing.
-use Rattle.std.specs.Prelude.{Bool, cond, not, ◌&&◌, List, ℕ, ◌+◌, ℤ, length}
+use Rattle.std.specs.Prelude.{◌≡◌, Bool, cond, not, ◌&&◌, List, ℕ, ◌+◌, ◌<◌, ℤ, length, Option, MatchOption}
 use Rattle.std.specs.Int.Signed.{lt_z}
 use Rattle.whole.specs.First.{any_below, pick_below}
 use Rattle.points.specs.Points.{vertices}
@@ -35,3 +35,7 @@ module _ (points : List ℤ) (corners begins : List ℕ) where
   -- "From the present vertex, take the highest neighbour, the lowest number among equals."
   unfoldable pub step : Standing → Standing
   step s = pick_below (is_highest s.direction s.spot.vertex) (vertices points) (λ u. move_up points u s) s
+
+  -- what the code's step answers of s: where the walk moves, or none where it stays
+  abbrev pub Steps : Standing → Option Standing → Type 0
+  Steps s r = MatchOption r (step s ≡ s) (λ next. (next ≡ step s) × (s.moves < next.moves))

@@ -4,7 +4,7 @@
 ghost use Rattle.std.specs.Prelude.{◌≡◌};
 ghost use Rattle.points.specs.Points.{Vertex, Ranged};
 ghost use Rattle.direction.specs.Direction.{Permitted};
-ghost use Rattle.climb.specs.Move.{begin, step};
+ghost use Rattle.climb.specs.Move.{begin, Steps};
 ghost use Rattle.climb.specs.Best.{Best};
 ghost use Rattle.climb.specs.Ready.{Ready};
 ghost use Rattle.climb.specs.Climb.{Climbs, Climbed};
@@ -22,21 +22,19 @@ fn highest(
     points: &[i32],
     corners: &[u16],
     begins: &[u16],
-    edges: &index::Edges,
-    heads: &index::Heads,
+    index: &index::Index,
     here: Standing,
 ) -> height::Spot
-    requires { Ready points.now corners.now begins.now edges.now heads.now here }
+    requires { Ready points.now corners.now begins.now index.now.edges index.now.heads here }
     ensures { Best points.now corners.now begins.now here.direction here.spot.vertex 0 result }
 {
-    let direction = here.direction;
     let mut best = here.spot;
-    let mut q = index::head_at(heads, tables::wide(best.vertex));
+    let mut q = index.head(usize::from(best.vertex));
     while 0 < q {
         let p = q - 1;
-        let next = height::Spot::at(points, direction, index::end_at(edges, p));
+        let next = height::Spot::at(points, here.direction, index.end(p));
         best = height::better(best, next);
-        q = index::back_at(edges, p);
+        q = index.back(p);
     }
     best
 }
@@ -47,10 +45,9 @@ impl Standing {
         requires { Ranged points.now × Vertex points.now start × Permitted direction }
         ensures { result ≡ begin points.now direction start }
     {
-        let spot = height::Spot::at(points, direction, start);
         Self {
             direction,
-            spot,
+            spot: height::Spot::at(points, direction, start),
             moves: 0,
         }
     }
@@ -61,23 +58,21 @@ impl Standing {
         points: &[i32],
         corners: &[u16],
         begins: &[u16],
-        edges: &index::Edges,
-        heads: &index::Heads,
-    ) -> Self
-        requires { Ready points.now corners.now begins.now edges.now heads.now self }
-        ensures { result ≡ step points.now corners.now begins.now self }
+        index: &index::Index,
+    ) -> Option<Self>
+        requires { Ready points.now corners.now begins.now index.now.edges index.now.heads self }
+        ensures { Steps points.now corners.now begins.now self result }
     {
-        let best = highest(points, corners, begins, edges, heads, self);
-        let here = self.spot;
-        if height::is_above(best, here) {
-            let direction = self.direction;
-            return Self {
-                direction,
+        let best = highest(points, corners, begins, index, self);
+        if height::is_above(best, self.spot) {
+            Some(Self {
                 spot: best,
                 moves: self.moves + 1,
-            };
+                ..self
+            })
+        } else {
+            None
         }
-        self
     }
 
     // Walks until no neighbour is strictly higher, and lists the vertices stood on.
@@ -86,24 +81,17 @@ impl Standing {
         points: &[i32],
         corners: &[u16],
         begins: &[u16],
-        edges: &index::Edges,
-        heads: &index::Heads,
+        index: &index::Index,
         trail: &mut [u16],
     ) -> Self
-        requires { Climbs points.now corners.now begins.now edges.now heads.now self trail.old }
+        requires { Climbs points.now corners.now begins.now index.now.edges index.now.heads self trail.old }
         ensures { Climbed points.now corners.now begins.now self trail.old result trail.new }
     {
-        let spot = self.spot;
-        let start = spot.vertex;
-        trail[0] = start;
+        trail[0] = self.spot.vertex;
         let mut here = self;
-        let mut next = here.step(points, corners, begins, edges, heads);
-        while here.moves < next.moves {
+        while let Some(next) = here.step(points, corners, begins, index) {
             here = next;
-            let moves = here.moves;
-            let spot = here.spot;
-            trail[moves] = spot.vertex;
-            next = here.step(points, corners, begins, edges, heads);
+            trail[here.moves] = here.spot.vertex;
         }
         here
     }

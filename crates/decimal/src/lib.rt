@@ -1,19 +1,9 @@
 // A number in decimal, written.
 #![tactic(auto)]
 
-ghost use Rattle.std.specs.Prelude.{◌≡◌, ◌+◌, ◌≤◌, ◌<◌, nat_abs, length};
+ghost use Rattle.std.specs.Prelude.{◌≡◌, ◌+◌, ◌≤◌, ◌<◌, length};
 ghost use Rattle.decimal.specs.Shown.{digit, digits, shown};
 ghost use Rattle.decimal.specs.Stored.{Stored};
-
-// A number without its sign: that of the least number fits too.
-fn magnitude(x: i64) -> u64
-    ensures { result ≡ nat_abs x }
-{
-    if x < 0 {
-        return (-(x + 1)) as u64 + 1;
-    }
-    x as u64
-}
 
 // The byte of a digit.
 fn digit(n: u64) -> u8
@@ -24,17 +14,18 @@ fn digit(n: u64) -> u8
 }
 
 // The digits of n, stored from `at` on; the place after them.
+#[tactic(auto, using(crate::specs::Shown::spelling, whole::specs::Stores::sets_append))]
 fn put_digits(buf: &mut [u8], at: usize, n: u64) -> usize
     requires { at + length (digits n) ≤ length buf.old }
     ensures { Stored (digits n) buf.old buf.new at result }
 {
-    if n < 10 {
-        buf[at] = digit(n);
-        return at + 1;
-    }
-    let end = put_digits(buf, at, n / 10);
-    buf[end] = digit(n % 10);
-    end + 1
+    let last = if n < 10 {
+        at
+    } else {
+        put_digits(buf, at, n / 10)
+    };
+    buf[last] = digit(n % 10);
+    last + 1
 }
 
 // A number in decimal, stored from `at` on; the place after it.
@@ -44,7 +35,8 @@ pub fn put_number(buf: &mut [u8], at: usize, z: i64) -> usize
 {
     if z < 0 {
         buf[at] = b'-';
-        return put_digits(buf, at + 1, magnitude(z));
+        put_digits(buf, at + 1, z.unsigned_abs())
+    } else {
+        put_digits(buf, at, z.unsigned_abs())
     }
-    put_digits(buf, at, magnitude(z))
 }

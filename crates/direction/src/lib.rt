@@ -13,17 +13,17 @@ pub struct Direction {
 }
 
 impl Direction {
-    pub const PLUS_X: Direction = Direction { x: 1, y: 0, z: 0 };
+    pub const PLUS_X: Self = Self { x: 1, y: 0, z: 0 };
 
-    pub const MINUS_X: Direction = Direction { x: -1, y: 0, z: 0 };
+    pub const MINUS_X: Self = Self { x: -1, y: 0, z: 0 };
 
-    pub const PLUS_Y: Direction = Direction { x: 0, y: 1, z: 0 };
+    pub const PLUS_Y: Self = Self { x: 0, y: 1, z: 0 };
 
-    pub const MINUS_Y: Direction = Direction { x: 0, y: -1, z: 0 };
+    pub const MINUS_Y: Self = Self { x: 0, y: -1, z: 0 };
 
-    pub const PLUS_Z: Direction = Direction { x: 0, y: 0, z: 1 };
+    pub const PLUS_Z: Self = Self { x: 0, y: 0, z: 1 };
 
-    pub const MINUS_Z: Direction = Direction { x: 0, y: 0, z: -1 };
+    pub const MINUS_Z: Self = Self { x: 0, y: 0, z: -1 };
 
     pub fn new(x: i32, y: i32, z: i32) -> Self
         ensures { result ≡ direction x y z }
@@ -32,16 +32,16 @@ impl Direction {
     }
 
     // The named axes.
-    pub fn axes() -> [Direction; 6]
+    pub fn axes() -> [Self; 6]
         ensures { result ≡ axes }
     {
         [
-            Direction::PLUS_X,
-            Direction::MINUS_X,
-            Direction::PLUS_Y,
-            Direction::MINUS_Y,
-            Direction::PLUS_Z,
-            Direction::MINUS_Z,
+            Self::PLUS_X,
+            Self::MINUS_X,
+            Self::PLUS_Y,
+            Self::MINUS_Y,
+            Self::PLUS_Z,
+            Self::MINUS_Z,
         ]
     }
 
@@ -49,17 +49,12 @@ impl Direction {
     pub fn is_wrong(self) -> bool
         ensures { result ≡ is_wrong self }
     {
-        if is_steep(self.x) {
-            return true;
-        }
-        if is_steep(self.y) {
-            return true;
-        }
-        is_steep(self.z)
+        is_steep(self.x) || is_steep(self.y) || is_steep(self.z)
     }
 }
 
 // Whether a part of a direction is outside its limits.
+#[tactic(auto, unfolding(crate::specs::Direction::is_steep))]
 fn is_steep(part: i32) -> bool
     ensures { result ≡ is_steep part }
 {

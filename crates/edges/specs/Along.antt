@@ -4,25 +4,26 @@ use Rattle.std.proofs.Common.{arith}
 use Rattle.whole.specs.Count.{bit, count_below, last_below}
 use Rattle.tables.specs.Tables.{most_vertices, most_corners, from}
 use Rattle.index.specs.Entries.{head_at, back_at}
+use Rattle.index.specs.declared.Edge.{Edge}
 use Rattle.edges.specs.Chains.{On, Within, Met, Unmet, falls, met_0, met_more, met_few, met_all, unmet_0, unmet_more, unmet_here, unmet_none}
 use Rattle.edges.specs.Index.{Leaving}
 
 -- the place of a link
-pub link_place : {corners begins : List ℕ} {edges : List (List ℕ)} {heads : List ℕ} {v q : ℕ} → Leaving corners begins edges heads → On corners v q
+pub link_place : {corners begins : List ℕ} {edges : List Edge} {heads : List ℕ} {v q : ℕ} → Leaving corners begins edges heads → On corners v q
     → 0 < q → (q - 1 < length corners) × (q - 1 < most_corners)
 link_place L o h = (omega (arith, o.upto), omega (arith, o.upto, L.tables.laid.short))
 
 -- f, which holds only at places that leave v, held at no place of the chain of v before link q
-pub record Seeking (corners begins : List ℕ) (edges : List (List ℕ)) (heads : List ℕ) (v : ℕ) (f : ℕ → Bool) (q : ℕ) : Type 0 where
+pub record Seeking (corners begins : List ℕ) (edges : List Edge) (heads : List ℕ) (v : ℕ) (f : ℕ → Bool) (q : ℕ) : Type 0 where
   pub leaving : Leaving corners begins edges heads
   pub within : Within corners v f
   pub unmet : Unmet corners v f q
 
-pub seeking_0 : {corners begins : List ℕ} {edges : List (List ℕ)} {heads : List ℕ} {v : ℕ} {f : ℕ → Bool} → Leaving corners begins edges heads
+pub seeking_0 : {corners begins : List ℕ} {edges : List Edge} {heads : List ℕ} {v : ℕ} {f : ℕ → Bool} → Leaving corners begins edges heads
     → Within corners v f → v < most_vertices → Seeking corners begins edges heads v f (head_at heads v)
 seeking_0 L w l = record { leaving = L; within = w; unmet = unmet_0 L.chains w l }
 
-module _ {corners begins : List ℕ} {edges : List (List ℕ)} {heads : List ℕ} {v : ℕ} {f : ℕ → Bool} {q : ℕ} (S : Seeking corners begins edges heads v f q) where
+module _ {corners begins : List ℕ} {edges : List Edge} {heads : List ℕ} {v : ℕ} {f : ℕ → Bool} {q : ℕ} (S : Seeking corners begins edges heads v f q) where
   module _ (h : 0 < q) where
     pub place-below : q - 1 < length corners
     place-below = (link_place S.leaving S.unmet.on h).0
@@ -46,23 +47,20 @@ module _ {corners begins : List ℕ} {edges : List (List ℕ)} {heads : List ℕ
   seeking_none l = unmet_none S.unmet l
 
 -- f held at n places of the chain of v before link q
-pub record Counting (corners begins : List ℕ) (edges : List (List ℕ)) (heads : List ℕ) (v : ℕ) (f : ℕ → Bool) (n q : ℕ) : Type 0 where
+pub record Counting (corners begins : List ℕ) (edges : List Edge) (heads : List ℕ) (v : ℕ) (f : ℕ → Bool) (n q : ℕ) : Type 0 where
   pub leaving : Leaving corners begins edges heads
   pub within : Within corners v f
   pub met : Met corners v f n q
 
-pub counting_0 : {corners begins : List ℕ} {edges : List (List ℕ)} {heads : List ℕ} {v : ℕ} {f : ℕ → Bool} → Leaving corners begins edges heads
+pub counting_0 : {corners begins : List ℕ} {edges : List Edge} {heads : List ℕ} {v : ℕ} {f : ℕ → Bool} → Leaving corners begins edges heads
     → Within corners v f → v < most_vertices → Counting corners begins edges heads v f 0 (head_at heads v)
 counting_0 L w l = record { leaving = L; within = w; met = met_0 L.chains w l }
 
-module _ {corners begins : List ℕ} {edges : List (List ℕ)} {heads : List ℕ} {v : ℕ} {f : ℕ → Bool} {n q : ℕ}
+module _ {corners begins : List ℕ} {edges : List Edge} {heads : List ℕ} {v : ℕ} {f : ℕ → Bool} {n q : ℕ}
     (S : Counting corners begins edges heads v f n q) where
   module _ (h : 0 < q) where
     pub counted_below : q - 1 < length corners
     counted_below = (link_place S.leaving S.met.on h).0
-
-    pub counted_small : q - 1 < most_corners
-    counted_small = (link_place S.leaving S.met.on h).1
 
     pub counted_leaves : from corners (q - 1) ≡ v
     counted_leaves = S.met.on.leads h

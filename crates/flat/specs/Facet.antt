@@ -1,11 +1,11 @@
 -- What the tests of one facet ask of its part of the run, and what they have where 1 to 3 pass. Assumes nothing.
-use Rattle.std.specs.Prelude.{◌≡◌, List, ℕ, ◌+◌, ◌≤◌, ◌<◌, Bool, ℤ, length, get_or}
+use Rattle.std.specs.Prelude.{◌≡◌, List, ℕ, ◌+◌, ◌≤◌, ◌<◌, ℤ, length, get_or}
 use Rattle.std.proofs.Common.{arith, eq-eqb, ne_eqb}
+use Rattle.std.proofs.lemmas.List.{get_or_default}
 use Rattle.std.proofs.Math.Decide.{ℕ_discrete}
 use Rattle.points.specs.Points.{vertices, Ranged, Vertex}
 use Rattle.sides.specs.Sides.{Three}
 use Rattle.tables.specs.Tables.{most_sides, facets, sides, facet_of, next_position}
-use Rattle.tables.specs.Facets.{Clear}
 use Rattle.tables.specs.Places.{Sound, part_length, sides-some, sides-few, corner-at, place-below}
 
 pub record Facet (points : List ℤ) (part : List ℕ) : Type 0 where
@@ -13,6 +13,10 @@ pub record Facet (points : List ℤ) (part : List ℕ) : Type 0 where
   pub some : 3 ≤ length part
   pub few : length part ≤ most_sides
   pub named : (p : ℕ) → p < length part → Vertex points (get_or part p 0)
+
+-- a corner that stands in the part is a vertex
+pub corner_named : {points : List ℤ} {part : List ℕ} {c : ℕ} → Facet points part → (p : ℕ) → p < length part → c ≡ get_or part p c → Vertex points c
+corner_named {points} {part} {c} f p l e = let v = f.named p l in rw (get_or_default part p 0 c l, ← e) at v
 
 -- the corners that its plane comes from
 pub first_three : {points : List ℤ} {part : List ℕ} → Facet points part → Three points (get_or part 0 0) (get_or part 1 0) (get_or part 2 0)
@@ -40,11 +44,6 @@ after-named {points} {part} p f l = elim (ℕ_discrete (p + 1) (length part)) [
 pub record Measured (points : List ℤ) (corners begins : List ℕ) : Type 0 where
   pub ranged : Ranged points
   pub sound : Sound (vertices points) corners begins
-
--- the loop over the facets has passed those before f
-pub record Passing (points : List ℤ) (corners begins : List ℕ) (test : List ℕ → ℕ → Bool) (f : ℕ) : Type 0 where
-  pub measured : Measured points corners begins
-  pub clear : Clear corners begins test f
 
 pub facet : {points : List ℤ} {corners begins : List ℕ} → Measured points corners begins → {f : ℕ} → f < facets begins
     → Facet points (facet_of corners begins f)

@@ -1,16 +1,15 @@
 -- Number 9, BENT, by its row of the sheet's table. A facet is its part of the run.
-use Rattle.std.specs.Prelude.{◌≡◌, Bool, true, false, cond, List, eqb, ltb, ℤ, length, get_or}
+use Rattle.std.specs.Prelude.{◌≡◌, Bool, true, false, cond, List, Some, None, eqb, ltb, ℤ, length, get_or}
 use Rattle.std.proofs.Math.Path.{refl, ap}
 use Rattle.std.proofs.Common.{◌∙◌, arith}
 use Rattle.std.proofs.Math.Bool.{not}
 use Prim.Native.Nat.{ℕ, zero, suc, ◌≤◌, ◌<◌}
 use borrow.Author.Tests.{le-ltb, ne_eqb}
-use Rattle.whole.specs.First.{first_below, NoneYet, yet_0, yet_more, yet_hit}
+use Rattle.whole.specs.First.{found_below, NoneYet, yet_0, yet_more, hit}
 use Rattle.sides.specs.Sides.{side_of, in_line, is_on}
 use Rattle.sides.specs.declared.Side.{Side}
 use Rattle.tables.specs.Facets.{in_facets}
 use Rattle.tables.specs.Search.{Search}
-use Rattle.flat.specs.Facet.{Facet}
 
 -- "A facet's plane comes from its first three corners a, b, c"
 abbrev pub side_at : List ℤ → List ℕ → ℕ → Side
@@ -40,20 +39,14 @@ module _ (points : List ℤ) (part : List ℕ) where
   unfolding is_bent
   bent-later {p} l = rw (le-ltb p 2 (omega arith), ne_eqb p 2 (omega arith))
 
-  -- where the loop over the later corners begins, and where it isn't reached
+  -- where the search over the later corners begins, and where it isn't reached
   pub in_line-at : 3 ≤ length part → in_line points (get_or part 0 0) (get_or part 1 0) (get_or part 2 0) ≡ true
-      → 2 ≡ first_below (is_bent points part) (length part)
-  in_line-at l e = yet_hit (bent-start l) (bent-third ∙ e) (omega arith)
+      → Some 2 ≡ found_below (is_bent points part) (length part)
+  in_line-at l e = hit (bent-start l) (bent-third ∙ e) (omega arith) Some None
 
   pub not_in_line : 3 ≤ length part → in_line points (get_or part 0 0) (get_or part 1 0) (get_or part 2 0) ≡ false
       → NoneYet (is_bent points part) (length part) 3
   not_in_line l e = yet_more (bent-start l) (bent-third ∙ e) (omega arith)
-
-  -- the loop over the later corners has passed those before p
-  pub record Unbent (p : ℕ) : Type 0 where
-    pub facet : Facet points part
-    pub later : 3 ≤ p
-    pub yet : NoneYet (is_bent points part) (length part) p
 
   -- BENT finds nothing in a facet
   pub no_bend : is_bent points part 2 ≡ false → ((p : ℕ) → 3 ≤ p → p < length part → is_on (side_at points part (get_or part p 0)) ≡ true)

@@ -2,11 +2,13 @@
 #![tactic(auto)]
 
 ghost use Rattle.std.specs.Prelude.{◌≡◌, ◌<◌, length};
-ghost use Rattle.whole.specs.First.{first_below};
+ghost use Rattle.whole.specs.First.{found_below};
 ghost use Rattle.points.specs.Points.{Vertex};
 ghost use Rattle.tables.specs.Search.{place_of};
 ghost use Rattle.flat.specs.Facet.{Facet, Measured, corner_after};
 ghost use Rattle.flat.specs.Rules.{side_at, is_bent, bent};
+
+use tables::Place;
 
 // The side of a facet's plane that vertex v is on.
 pub fn side_at(points: &[i32], part: &[u16], v: u16) -> sides::Side
@@ -21,45 +23,27 @@ pub fn corner_after(part: &[u16], p: usize) -> u16
     requires { p < length part.now }
     ensures { result ≡ corner_after part.now p }
 {
-    let on = p + 1;
-    if on == part.len() {
-        return part[0];
-    }
-    part[on]
+    part.get(p + 1).copied().unwrap_or(part[0])
 }
 
-// The first position of a facet at which BENT applies, or its number of sides.
-fn first_bent(points: &[i32], part: &[u16]) -> usize
+// The first position of a facet at which BENT applies.
+fn first_bent(points: &[i32], part: &[u16]) -> Option<usize>
     requires { Facet points.now part.now }
-    ensures { result ≡ first_below (is_bent points.now part.now) (length part.now) }
+    ensures { result ≡ found_below (is_bent points.now part.now) (length part.now) }
 {
     if sides::in_line(points, part[0], part[1], part[2]) {
-        return 2;
+        return Some(2);
     }
-    let mut p = 3;
-    while p < part.len() {
-        if !sides::is_on(side_at(points, part, part[p])) {
-            return p;
-        }
-        p += 1;
-    }
-    p
+    (3..part.len()).find(|&p| !sides::is_on(side_at(points, part, part[p])))
 }
 
 // Number 9, BENT: its first place.
-pub fn bent(points: &[i32], corners: &[u16], begins: &[u16]) -> tables::Found
+#[tactic(auto, using(crate::specs::Facet::facet))]
+pub fn bent(points: &[i32], corners: &[u16], begins: &[u16]) -> Option<Place>
     requires { Measured points.now corners.now begins.now }
     ensures { result ≡ place_of (bent points.now corners.now begins.now) }
 {
-    let m = begins.len() - 1;
-    let mut f = 0;
-    while f < m {
-        let part = tables::part(corners, begins, f);
-        let p = first_bent(points, part);
-        if p < part.len() {
-            return tables::Found::At(f, p);
-        }
-        f += 1;
-    }
-    tables::Found::Nothing
+    tables::first_place(begins.len() - 1, |f| {
+        first_bent(points, tables::part(corners, begins, f))
+    })
 }

@@ -14,7 +14,7 @@ fn wide_part(x: i32) -> i64
     requires { x within steepest }
     ensures { Exact steepest x result }
 {
-    points::widen(x)
+    i64::from(x)
 }
 
 // The height of vertex v.
@@ -23,12 +23,16 @@ fn height(points: &[i32], direction: direction::Direction, v: usize) -> i64
     ensures { Exact largest (height points.now direction v) result }
 {
     space::dot(
-        wide_part(direction.x),
-        wide_part(direction.y),
-        wide_part(direction.z),
-        points::wide_coord(points, v, 0),
-        points::wide_coord(points, v, 1),
-        points::wide_coord(points, v, 2),
+        [
+            wide_part(direction.x),
+            wide_part(direction.y),
+            wide_part(direction.z),
+        ],
+        [
+            points::wide_coord(points, v, 0),
+            points::wide_coord(points, v, 1),
+            points::wide_coord(points, v, 2),
+        ],
     )
 }
 
@@ -44,8 +48,10 @@ impl Spot {
         requires { Ranged points.now × Vertex points.now v × Permitted direction }
         ensures { result ≡ spot points.now direction v }
     {
-        let height = height(points, direction, tables::wide(v));
-        Self { vertex: v, height }
+        Self {
+            vertex: v,
+            height: height(points, direction, usize::from(v)),
+        }
     }
 }
 
@@ -60,14 +66,9 @@ pub fn is_above(a: Spot, b: Spot) -> bool
 pub fn better(best: Spot, next: Spot) -> Spot
     ensures { result ≡ better best next }
 {
-    if is_above(next, best) {
-        return next;
+    if is_above(next, best) || !is_above(best, next) && next.vertex < best.vertex {
+        next
+    } else {
+        best
     }
-    if is_above(best, next) {
-        return best;
-    }
-    if next.vertex < best.vertex {
-        return next;
-    }
-    best
 }

@@ -1,64 +1,79 @@
-// The two tables of the index of the edges, and the reading of each of their entries.
+// The index of the edges: what it holds of each place of the run and of each vertex.
 #![tactic(auto)]
 
 ghost use Rattle.std.specs.Prelude.{◌≡◌, ◌<◌};
 ghost use Rattle.tables.specs.Tables.{most_vertices, most_corners};
 ghost use Rattle.index.specs.Entries.{home_at, end_at, across_at, back_at, head_at};
 
-// The columns of a row of Edges.
-pub const HOME: usize = 0;
-
-pub const END: usize = 1;
-
-pub const ACROSS: usize = 2;
-
-pub const BACK: usize = 3;
-
-// How many entries a row of the index has.
-pub const ENTRIES: usize = 4;
-
-// A row for each place of the run: its facet, where its edge ends, the place across, the link to the place before it in its chain.
-pub type Edges = [[u16; ENTRIES]; tables::MOST_CORNERS];
-
-// For each vertex the link to the last place that leaves it: one more than the place, or 0.
-pub type Heads = [u16; tables::MOST_VERTICES];
-
-// The facet of place p.
-pub fn home_at(edges: &Edges, p: usize) -> usize
-    requires { p < most_corners }
-    ensures { result ≡ home_at edges.now p }
-{
-    tables::wide(edges[p][HOME])
+// The edge at a place: its facet, the vertex at which it ends, the place across, the link to the place before it in its chain.
+#[derive(Clone, Copy)]
+pub struct Edge {
+    pub home: u16,
+    pub end: u16,
+    pub across: u16,
+    pub back: u16,
 }
 
-// The vertex at which the edge of place p ends.
-pub fn end_at(edges: &Edges, p: usize) -> u16
-    requires { p < most_corners }
-    ensures { result ≡ end_at edges.now p }
-{
-    edges[p][END]
+impl Edge {
+    pub const BLANK: Self = Self {
+        home: 0,
+        end: 0,
+        across: 0,
+        back: 0,
+    };
 }
 
-// The place across from place p.
-pub fn across_at(edges: &Edges, p: usize) -> usize
-    requires { p < most_corners }
-    ensures { result ≡ across_at edges.now p }
-{
-    tables::wide(edges[p][ACROSS])
+// The edge at each place, and for each vertex the link to the last place that leaves it. A link is one more than a place, or 0.
+#[derive(Drop)]
+pub struct Index {
+    pub edges: [Edge; tables::MOST_CORNERS],
+    pub heads: [u16; tables::MOST_VERTICES],
 }
 
-// The link that follows place p in its chain.
-pub fn back_at(edges: &Edges, p: usize) -> usize
-    requires { p < most_corners }
-    ensures { result ≡ back_at edges.now p }
-{
-    tables::wide(edges[p][BACK])
-}
+impl Index {
+    // What is lent to be filled.
+    pub const BLANK: Self = Self {
+        edges: [Edge::BLANK; tables::MOST_CORNERS],
+        heads: [0; tables::MOST_VERTICES],
+    };
 
-// The first link of the chain of vertex v.
-pub fn head_at(heads: &Heads, v: usize) -> usize
-    requires { v < most_vertices }
-    ensures { result ≡ head_at heads.now v }
-{
-    tables::wide(heads[v])
+    // The facet of place p.
+    pub fn home(&self, p: usize) -> usize
+        requires { p < most_corners }
+        ensures { result ≡ home_at self.now.edges p }
+    {
+        usize::from(self.edges[p].home)
+    }
+
+    // The vertex at which the edge of place p ends.
+    pub fn end(&self, p: usize) -> u16
+        requires { p < most_corners }
+        ensures { result ≡ end_at self.now.edges p }
+    {
+        self.edges[p].end
+    }
+
+    // The place across from place p.
+    pub fn across(&self, p: usize) -> usize
+        requires { p < most_corners }
+        ensures { result ≡ across_at self.now.edges p }
+    {
+        usize::from(self.edges[p].across)
+    }
+
+    // The link that follows place p in its chain.
+    pub fn back(&self, p: usize) -> usize
+        requires { p < most_corners }
+        ensures { result ≡ back_at self.now.edges p }
+    {
+        usize::from(self.edges[p].back)
+    }
+
+    // The first link of the chain of vertex v.
+    pub fn head(&self, v: usize) -> usize
+        requires { v < most_vertices }
+        ensures { result ≡ head_at self.now.heads v }
+    {
+        usize::from(self.heads[v])
+    }
 }

@@ -1,15 +1,13 @@
 -- "from standard input, up to 256 bytes, the start and the three parts of the direction as decimal numbers with blanks or newlines between".
 -- Assumes nothing.
-use Rattle.std.specs.Prelude.{◌≡◌, refl, Bool, true, false, cond, ◌||◌, List, ℕ, suc, min, ◌≤◌, ltb, ℤ, pos, negsuc, length, take}
-use Rattle.std.proofs.Common.{sym, true≢false, arith, take_all, SFits, ltb-true}
+use Rattle.std.specs.Prelude.{◌≡◌, refl, Bool, true, false, cond, ◌||◌, List, ℕ, suc, min, ltb, ℤ, pos, negsuc, length, take, Option, Some, None}
+use Rattle.std.proofs.Common.{true≢false, arith, SFits, ltb-true}
 use Rattle.std.specs.Int.Signed.{lt_z}
 use Rattle.std.specs.Int.{w64}
 use Rattle.whole.specs.Bounds.{◌within◌, abs_neg, exceeds, within-exceeds, within-fits}
 use Rattle.words.specs.Words.{is_blank, words, word_of}
 use Rattle.numbers.specs.Number.{is_number, value}
 use Rattle.numbers.specs.Reading.{most, clamp, read_of}
-use Rattle.numbers.specs.declared.Read.{Read}
-use Rattle.numbers.specs.declared.Read.TheVariants.{Number, Malformed}
 use Rattle.direction.specs.Direction.{direction, steepest}
 use Rattle.direction.specs.declared.Direction.{Direction}
 
@@ -20,8 +18,8 @@ longest = 256
 abbrev pub split : List ℕ → List ℕ
 split input = take longest input
 
--- word number k, read as a number; one that is missing is malformed
-abbrev pub read_at : List ℕ → ℕ → Read
+-- word number k, read as a number; none where it is missing or malformed
+abbrev pub read_at : List ℕ → ℕ → Option ℤ
 read_at input k = read_of (word_of is_blank (split input) k)
 
 -- "a start that is missing, malformed or below 0 is 13": it stands as a number that is V or more
@@ -32,9 +30,9 @@ abbrev pub vertex_of : ℤ → ℕ
 vertex_of (pos n) = n
 vertex_of (negsuc n) = no_vertex
 
-abbrev pub start_of : Read → ℕ
-start_of (Number z) = vertex_of z
-start_of Malformed = no_vertex
+abbrev pub start_of : Option ℤ → ℕ
+start_of (Some z) = vertex_of z
+start_of None = no_vertex
 
 abbrev pub start_in : List ℕ → ℕ
 start_in input = start_of (read_at input 0)
@@ -46,9 +44,9 @@ no_part = pos 40000
 abbrev pub limited : ℤ → ℤ
 limited z = cond (exceeds steepest z) no_part z
 
-abbrev pub part_of : Read → ℤ
-part_of (Number z) = limited z
-part_of Malformed = no_part
+abbrev pub part_of : Option ℤ → ℤ
+part_of (Some z) = limited z
+part_of None = no_part
 
 abbrev pub part_at : List ℕ → ℕ → ℤ
 part_at input k = part_of (read_at input k)
@@ -63,9 +61,6 @@ direction_in input =
     (direction (part_at input 1) (part_at input 2) (part_at input 3))
 
 -- ---- what the programs' functions cite
-
-pub split-short : (input : List ℕ) → length input ≤ longest → input ≡ split input
-split-short input h = sym (take_all longest input h)
 
 pub negative : (z : ℤ) → lt_z z (pos 0) ≡ true → vertex_of z ≡ no_vertex
 negative (pos n) e = absurd (omega (arith, ltb-true n 0 e))
@@ -90,16 +85,16 @@ small : (z : ℤ) → clamp z within most
 small (pos n) = record { abs = omega arith }
 small (negsuc n) = record { abs = omega (arith, abs_neg (pos (min (suc n) most))) }
 
-abbrev Small : Read → Type 0
-Small (Number z) = SFits w64 z
-Small Malformed = Unit {0}
+abbrev Small : Option ℤ → Type 0
+Small (Some z) = SFits w64 z
+Small None = Unit {0}
 
 read_small : (word : List ℕ) → Small (read_of word)
 read_small word = go (is_number word)
   where
-    go : (t : Bool) → Small (cond t (Number (clamp (value word))) Malformed)
+    go : (t : Bool) → Small (cond t (Some (clamp (value word))) None)
     go true = within-fits (small (value word)) tt
     go false = tt
 
-pub small_at : (input : List ℕ) (k : ℕ) {z : ℤ} → read_at input k ≡ Number z → SFits w64 z
+pub small_at : (input : List ℕ) (k : ℕ) {z : ℤ} → read_at input k ≡ Some z → SFits w64 z
 small_at input k e = rw e at (read_small (word_of is_blank (split input) k))

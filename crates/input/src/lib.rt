@@ -8,17 +8,15 @@ ghost use Rattle.input.specs.Input.{split, read_at, vertex_of, start_in, limited
 pub const LONGEST: usize = 256;
 
 // The part of the walk program's input that is split into words.
+#[tactic(auto, using(std::proofs::lemmas::List::take_min))]
 fn split(input: &[u8]) -> &[u8]
     ensures { result.now ≡ split input.now }
 {
-    if LONGEST < input.len() {
-        return &input[..LONGEST];
-    }
-    input
+    &input[..LONGEST.min(input.len())]
 }
 
-// Word number k of the input, read as a number.
-fn read_at(input: &[u8], k: usize) -> numbers::Read
+// Word number k of the input, read as a number; none where it is missing or malformed.
+fn read_at(input: &[u8], k: usize) -> Option<i64>
     ensures { result ≡ read_at input.now k }
 {
     numbers::number_at(split(input), k)
@@ -31,21 +29,14 @@ const NO_VERTEX: usize = 65535;
 fn vertex(z: i64) -> usize
     ensures { result ≡ vertex_of z }
 {
-    if z < 0 {
-        return NO_VERTEX;
-    }
-    z as usize
+    usize::try_from(z).unwrap_or(NO_VERTEX)
 }
 
 // The start that the input names.
 pub fn start_in(input: &[u8]) -> usize
     ensures { result ≡ start_in input.now }
 {
-    let read = read_at(input, 0);
-    match read {
-        numbers::Read::Number(z) => vertex(z),
-        numbers::Read::Malformed => NO_VERTEX,
-    }
+    read_at(input, 0).map_or(NO_VERTEX, vertex)
 }
 
 // Outside the limits of a part.
@@ -55,34 +46,24 @@ const NO_PART: i32 = 40000;
 fn limited(z: i64) -> i32
     ensures { result ≡ limited z }
 {
-    if z < -32767 {
-        return NO_PART;
+    match z {
+        -32767..=32767 => z as i32,
+        _ => NO_PART,
     }
-    if 32767 < z {
-        return NO_PART;
-    }
-    z as i32
 }
 
 // The part of the direction that word number k of the input names.
 fn part_at(input: &[u8], k: usize) -> i32
     ensures { result ≡ part_at input.now k }
 {
-    let read = read_at(input, k);
-    match read {
-        numbers::Read::Number(z) => limited(z),
-        numbers::Read::Malformed => NO_PART,
-    }
+    read_at(input, k).map_or(NO_PART, limited)
 }
 
 // Whether the input has a fifth word or too many bytes.
 fn is_crowded(input: &[u8]) -> bool
     ensures { result ≡ is_crowded input.now }
 {
-    if LONGEST < input.len() {
-        return true;
-    }
-    words::has_word(split(input), 4)
+    LONGEST < input.len() || words::has_word(split(input), 4)
 }
 
 // The direction that the input names.
@@ -91,7 +72,8 @@ pub fn direction_in(input: &[u8]) -> direction::Direction
     ensures { result ≡ direction_in input.now }
 {
     if is_crowded(input) {
-        return direction::Direction::new(NO_PART, NO_PART, NO_PART);
+        direction::Direction::new(NO_PART, NO_PART, NO_PART)
+    } else {
+        direction::Direction::new(part_at(input, 1), part_at(input, 2), part_at(input, 3))
     }
-    direction::Direction::new(part_at(input, 1), part_at(input, 2), part_at(input, 3))
 }

@@ -11,12 +11,12 @@ pub fn judge_tape(tape: &[u8]) -> answers::Answer
     let mut points = [0i32; reading::POINT_ROOM];
     let mut corners = [0u16; reading::CORNER_ROOM];
     let mut begins = [0u16; reading::BEGIN_ROOM];
-    let loaded = load::load(tape, &mut points, &mut corners, &mut begins);
-    if loaded.number != 0 {
-        return answers::Answer::at_offset(loaded.number, loaded.offset);
+    match load::load(tape, &mut points, &mut corners, &mut begins) {
+        Ok(loaded) => judge::judge(
+            &points[..loaded.points],
+            &corners[..loaded.corners],
+            &begins[..loaded.begins],
+        ),
+        Err(refused) => answers::Answer::at_offset(refused.number, refused.offset),
     }
-    let p = loaded.points;
-    let c = loaded.corners;
-    let b = loaded.begins;
-    judge::judge(&points[..p], &corners[..c], &begins[..b])
 }

@@ -1,10 +1,9 @@
 -- Numbers 1 to 3 in their order, and "tables whose sizes, ranges and corner numbers are in order": those that pass them. Assumes nothing.
-use Rattle.std.specs.Prelude.{◌≡◌, false, List, [], ◌∷◌, ℕ, ℤ}
+use Rattle.std.specs.Prelude.{◌≡◌, false, List, [], ◌∷◌, ℕ, ℤ, None}
 use Rattle.std.proofs.Common.{◌∙◌}
 use Rattle.points.specs.Points.{vertices}
 use Rattle.tables.specs.Size.{is_size, Laid, sized}
 use Rattle.tables.specs.Search.{of_all, place_of, applies_never, never_applies}
-use Rattle.tables.specs.declared.Found.TheVariants.{Nothing}
 use Rattle.answers.specs.Order.{Rule, rule, Passes, passes_none, first_after, none_for}
 use Rattle.limits.specs.Rules.{range, index}
 
@@ -19,8 +18,8 @@ limit_rules points corners begins =
 
 pub record InOrder (points : List ℤ) (corners begins : List ℕ) : Type 0 where
   pub sizes : is_size points corners begins ≡ false
-  pub ranges : place_of (range points) ≡ Nothing
-  pub numbers : place_of (index (vertices points) corners begins) ≡ Nothing
+  pub ranges : place_of (range points) ≡ None
+  pub numbers : place_of (index (vertices points) corners begins) ≡ None
 
 -- exactly such tables pass
 pub limits_none : (points : List ℤ) (corners begins : List ℕ) → Passes (limit_rules points corners begins) → InOrder points corners begins

@@ -1,5 +1,5 @@
 -- Numbers 2 and 3, RANGE and INDEX, each by its row of the sheet's table. Assumes nothing.
-use Rattle.std.specs.Prelude.{◌≡◌, Bool, false, ◌||◌, List, ℕ, zero, suc, ◌<◌, leb, ℤ, get_or}
+use Rattle.std.specs.Prelude.{◌≡◌, Bool, false, ◌||◌, List, ℕ, zero, suc, ◌<◌, leb, ℤ, get_or, None}
 use Rattle.std.proofs.Common.{arith}
 use Rattle.whole.specs.Count.{neither}
 use Rattle.whole.specs.Bounds.{◌within◌}
@@ -8,7 +8,6 @@ use Rattle.points.specs.Points.{vertices, coord_of, Ranged}
 use Rattle.tables.specs.Found.{nowhere_is}
 use Rattle.tables.specs.Search.{Search, of_each, place_of, applies_never}
 use Rattle.tables.specs.Facets.{in_facets}
-use Rattle.tables.specs.declared.Found.TheVariants.{Nothing}
 
 -- "a coordinate is outside its limits"
 abbrev pub out_of_range : List ℤ → ℕ → Bool
@@ -25,7 +24,7 @@ abbrev pub index : ℕ → List ℕ → List ℕ → Search
 index n corners begins = in_facets corners begins (wild n)
 
 -- RANGE finds nothing exactly where each coordinate is within its limits
-pub in_limits : (points : List ℤ) → place_of (range points) ≡ Nothing → Ranged points
+pub in_limits : (points : List ℤ) → place_of (range points) ≡ None → Ranged points
 in_limits points e v k l h =
     let (x, f) = neither (is_out (coord_of points v 0)) _ (applies_never (range points) e v l) in
     let (y, z) = neither (is_out (coord_of points v 1)) (is_out (coord_of points v 2)) f in
@@ -38,5 +37,5 @@ in_limits points e v k l h =
     axis (suc (suc zero)) h x y z = in_range _ z
     axis (suc (suc (suc k))) h x y z = absurd (omega arith)
 
-pub limits_in : (points : List ℤ) → Ranged points → place_of (range points) ≡ Nothing
+pub limits_in : (points : List ℤ) → Ranged points → place_of (range points) ≡ None
 limits_in points R = nowhere_is (λ v l. rw (not_out _ (R v 0 l (omega arith)), not_out _ (R v 1 l (omega arith)), not_out _ (R v 2 l (omega arith))))

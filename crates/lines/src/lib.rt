@@ -9,24 +9,19 @@ ghost use Rattle.lines.specs.Line.{after, line_of, room, line_in, number_of};
 fn after(others: usize) -> u8
     ensures { result ≡ after others }
 {
-    if others == 0 {
-        return b'\n';
-    }
-    b' '
+    if others == 0 { b'\n' } else { b' ' }
 }
 
 // A line of numbers, stored from `at` on; the place after it.
+#[tactic(auto, using(crate::specs::Line::storing))]
 fn put_line(buf: &mut [u8], at: usize, numbers: &[i64]) -> usize
     requires { at + length (line_of numbers.now) ≤ length buf.old }
     ensures { Stored (line_of numbers.now) buf.old buf.new at result }
 {
-    let n = numbers.len();
     let mut end = at;
-    let mut i = 0;
-    while i < n {
-        end = decimal::put_number(buf, end, numbers[i]);
-        i += 1;
-        buf[end] = after(n - i);
+    for (i, z) in numbers.iter().enumerate() {
+        end = decimal::put_number(buf, end, *z);
+        buf[end] = after(numbers.len() - 1 - i);
         end += 1;
     }
     end
@@ -56,16 +51,12 @@ fn line_of(numbers: &[i64]) -> Line
 pub fn number_of(n: usize) -> i64
     ensures { result ≡ number_of n }
 {
-    if 9_223_372_036_854_775_807 < n {
-        return 9_223_372_036_854_775_807;
-    }
-    n as i64
+    i64::try_from(n).unwrap_or(i64::MAX)
 }
 
 // "number and three places, in decimal, single spaces, newline"
 pub fn line4(a: i64, b: i64, c: i64, d: i64) -> Line
     ensures { (result ≡ line_in (a ∷ b ∷ c ∷ d ∷ [])) × (length (line_of (a ∷ b ∷ c ∷ d ∷ [])) ≤ room) }
 {
-    let numbers = [a, b, c, d];
-    line_of(&numbers)
+    line_of(&[a, b, c, d])
 }

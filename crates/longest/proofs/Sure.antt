@@ -1,5 +1,5 @@
 -- "one above the longest tape; the answer is already sure": inputs that begin with the same 21,510 bytes are read alike. Assumes nothing.
-use Rattle.std.specs.Prelude.{◌≡◌, Bool, true, false, cond, List, ltb, leb, eqb, length, get_or, take}
+use Rattle.std.specs.Prelude.{◌≡◌, Bool, true, false, cond, List, ltb, leb, eqb, length, get_or, take, Ok, Err}
 use Rattle.std.proofs.Math.Path.{refl}
 use Rattle.std.proofs.Common.{ap, take_all, get_or-take, length-take-le}
 use Prim.Native.Nat.{ℕ, zero, suc, ◌+◌, ◌-◌, ◌*◌, ◌≤◌, ◌<◌}
@@ -8,10 +8,9 @@ use native.Mathlib.Omega.{arith}
 use borrow.Author.Tests.{ltb-false, leb-false, lt-ltb, le-ltb, lt-leb}
 use Rattle.tables.specs.Tables.{most_vertices, most_facets, most_corners, most_sides}
 use Rattle.tape.specs.Little.{number_at}
-use Rattle.tape.specs.Reading.{point_at, facet_at, end_at, kind_at, look_at, after, run, read_tape}
+use Rattle.tape.specs.Reading.{Next, point_at, facet_at, end_at, kind_at, look_at, after, run, read_tape}
 use Rattle.tape.specs.Look.{tells}
-use Rattle.tape.specs.declared.Next.{Next}
-use Rattle.tape.specs.declared.Next.TheVariants.{Point, Facet, End, Bad}
+use Rattle.tape.specs.declared.Record.TheVariants.{Point, Facet, End}
 use Rattle.longest.specs.Longest.{tape_room}
 
 -- two inputs that begin with the same bytes, one more than the longest tape has
@@ -89,18 +88,18 @@ module _ {s t : List ℕ} (A : Alike s t) where
       → ((at v f c : ℕ) → Stands at v f c → length s < j + at → length t < k + at → run (look_at s) j at v f c ≡ run (look_at t) k at v f c)
       → length s < suc j + at → length t < suc k + at → (r : Next) → look_at t at v f c ≡ r
       → after (run (look_at s) j) at v f c r ≡ after (run (look_at t) k) at v f c r
-  same_after j k at v f c S more a b Point e =
+  same_after j k at v f c S more a b (Ok Point) e =
       let p = tells t at v f c e in
       let S' : Stands (at + 7) (v + 1) f c =
       record { here = omega (arith, S.here); points = omega (arith, p.few); facets = S.facets; corners = S.corners } in
       more (at + 7) (v + 1) f c S' (omega arith) (omega arith)
-  same_after j k at v f c S more a b (Facet n) e =
+  same_after j k at v f c S more a b (Ok (Facet n)) e =
       let p = tells t at v f c e in
       let S' : Stands (at + (1 + 2 * n)) v (f + 1) (c + n) =
       record { here = omega (arith, S.here); points = S.points; facets = omega (arith, p.few); corners = p.short } in
       more (at + (1 + 2 * n)) v (f + 1) (c + n) S' (omega arith) (omega arith)
-  same_after j k at v f c S more a b End e = refl
-  same_after j k at v f c S more a b (Bad number offset) e = refl
+  same_after j k at v f c S more a b (Ok End) e = refl
+  same_after j k at v f c S more a b (Err refused) e = refl
 
   same-run : (j k at v f c : ℕ) → Stands at v f c → length s < j + at → length t < k + at → run (look_at s) j at v f c ≡ run (look_at t) k at v f c
   unfolding run

@@ -1,5 +1,5 @@
 -- A refusal's number is 17 to 22, and its offset is no farther than the input's end. Assumes nothing.
-use Rattle.std.specs.Prelude.{◌≡◌, Bool, true, false, cond, List, T, ltb, leb, eqb}
+use Rattle.std.specs.Prelude.{◌≡◌, Bool, true, false, cond, List, T, ltb, leb, eqb, Ok, Err}
 use Rattle.std.proofs.Math.Path.{refl}
 use Prim.Native.Nat.{ℕ, zero, suc, ◌+◌, ◌-◌, ◌*◌, ◌≤◌, ◌<◌}
 use Rattle.std.proofs.Common.{arith}
@@ -8,11 +8,10 @@ use Rattle.std.proofs.Math.ListN.{length, get_or}
 use borrow.Author.Tests.{ltb-true}
 use Rattle.tables.specs.Tables.{most_vertices, most_facets, most_corners, most_sides}
 use Rattle.tape.specs.Little.{unsigned_at}
-use Rattle.tape.specs.Reading.{look_at, after, run, read_tape}
+use Rattle.tape.specs.Reading.{Next, look_at, after, run, read_tape}
 use Rattle.tape.specs.Look.{tells}
-use Rattle.tape.specs.declared.Next.{Next}
-use Rattle.tape.specs.declared.Next.TheVariants.{Point, Facet, End, Bad}
-use Rattle.reading.specs.declared.Reading.TheVariants.{Refused}
+use Rattle.tape.specs.declared.Record.TheVariants.{Point, Facet, End}
+use Rattle.reading.specs.Answer.{refused_at}
 
 -- the number of one of the reader's refusals, and an offset in the input or at its end
 pub record Refusal (s : List ℕ) (number offset : ℕ) : Type 0 where
@@ -21,10 +20,8 @@ pub record Refusal (s : List ℕ) (number offset : ℕ) : Type 0 where
   pub inside : offset ≤ length s
 
 abbrev Fine : List ℕ → Next → Type 0
-Fine s Point = Unit {0}
-Fine s (Facet n) = Unit {0}
-Fine s End = Unit {0}
-Fine s (Bad number offset) = Refusal s number offset
+Fine s (Ok stands) = Unit {0}
+Fine s (Err refused) = Refusal s refused.number refused.offset
 
 -- a look by a test, case by case
 by : (P : Next → Type 0) (t : Bool) {x y : Next} → (t ≡ true → P x) → (t ≡ false → P y) → P (cond t x y)
@@ -65,19 +62,19 @@ module _ (s : List ℕ) (at v f c : ℕ) (h : at ≤ length s) where
 
 module _ (s : List ℕ) {number offset : ℕ} where
   refuses : (k at v f c : ℕ)
-      → ((at v f c : ℕ) → at ≤ length s → length s < k + at → run (look_at s) k at v f c ≡ Refused number offset → Refusal s number offset)
-      → length s < suc k + at → (r : Next) → look_at s at v f c ≡ r → Fine s r → after (run (look_at s) k) at v f c r ≡ Refused number offset
+      → ((at v f c : ℕ) → at ≤ length s → length s < k + at → run (look_at s) k at v f c ≡ Err (refused_at number offset) → Refusal s number offset)
+      → length s < suc k + at → (r : Next) → look_at s at v f c ≡ r → Fine s r → after (run (look_at s) k) at v f c r ≡ Err (refused_at number offset)
       → Refusal s number offset
-  refuses k at v f c more l Point e p q = more (at + 7) (v + 1) f c (tells s at v f c e).whole (omega arith) q
-  refuses k at v f c more l (Facet n) e p q = more (at + (1 + 2 * n)) v (f + 1) (c + n) (tells s at v f c e).whole (omega arith) q
-  refuses k at v f c more l End e p q = let z : ◌≡◌ {A = ℕ} 0 1 = cc in absurd (omega arith)
-  refuses k at v f c more l (Bad n o) e p q = let a : n ≡ number = cc in let b : o ≡ offset = cc in rw (a, b) at p
+  refuses k at v f c more l (Ok Point) e p q = more (at + 7) (v + 1) f c (tells s at v f c e).whole (omega arith) q
+  refuses k at v f c more l (Ok (Facet n)) e p q = more (at + (1 + 2 * n)) v (f + 1) (c + n) (tells s at v f c e).whole (omega arith) q
+  refuses k at v f c more l (Ok End) e p q = let z : ◌≡◌ {A = ℕ} 0 1 = cc in absurd (omega arith)
+  refuses k at v f c more l (Err refused) e p q = let a : refused ≡ refused_at number offset = cc in rw a at p
 
-  run-refuses : (k at v f c : ℕ) → at ≤ length s → length s < k + at → run (look_at s) k at v f c ≡ Refused number offset → Refusal s number offset
+  run-refuses : (k at v f c : ℕ) → at ≤ length s → length s < k + at → run (look_at s) k at v f c ≡ Err (refused_at number offset) → Refusal s number offset
   unfolding run
   run-refuses zero at v f c h l q = absurd (omega arith)
   run-refuses (suc k) at v f c h l q = refuses k at v f c (run-refuses k) l (look_at s at v f c) refl (fine s at v f c h) q
 
-  pub read-refusal : read_tape s ≡ Refused number offset → Refusal s number offset
+  pub read-refusal : read_tape s ≡ Err (refused_at number offset) → Refusal s number offset
   unfolding read_tape
   read-refusal q = run-refuses (suc (length s)) 0 0 0 0 (omega arith) (omega arith) q

@@ -5,82 +5,74 @@ ghost use Rattle.std.specs.Prelude.{◌≡◌, ◌+◌, ◌*◌, ◌≤◌, ◌<
 ghost use Rattle.tables.specs.Tables.{most_corners, most_sides};
 ghost use Rattle.tape.specs.Reading.{point_at, facet_at, end_at, look_at};
 
+use reading::{Counts, Refused};
+use refusals::Refusal;
+use tape::Record;
+
 // ORDER, LIMIT and CUT at a point's record.
-fn look_point(tape: &[u8], at: usize, v: usize, f: usize) -> tape::Next
+fn look_point(tape: &[u8], at: usize, read: Counts) -> Result<Record, Refused>
     requires { at < length tape.now }
-    ensures { result ≡ point_at tape.now at v f }
+    ensures { result ≡ point_at tape.now at read.vertices read.facets }
 {
-    if 0 < f {
-        return tape::Next::Bad(18, at);
+    if 0 < read.facets {
+        return Err(Refused::at(Refusal::Order, at));
     }
-    if tables::MOST_VERTICES <= v {
-        return tape::Next::Bad(19, at);
+    if tables::MOST_VERTICES <= read.vertices {
+        return Err(Refused::at(Refusal::Limit, at));
     }
     if tape.len() - at < 7 {
-        return tape::Next::Bad(20, at);
+        return Err(Refused::at(Refusal::Cut, at));
     }
-    tape::Next::Point
+    Ok(Record::Point)
 }
 
 // LIMIT and CUT at the record of a facet with n corners.
-fn look_facet(tape: &[u8], at: usize, f: usize, c: usize, n: usize) -> tape::Next
-    requires { (at < length tape.now) × (c ≤ most_corners) × (n ≤ most_sides) }
-    ensures { result ≡ facet_at tape.now at f c n }
+fn look_facet(tape: &[u8], at: usize, read: Counts, n: usize) -> Result<Record, Refused>
+    requires { (at < length tape.now) × (read.corners ≤ most_corners) × (n ≤ most_sides) }
+    ensures { result ≡ facet_at tape.now at read.facets read.corners n }
 {
-    if tables::MOST_FACETS <= f {
-        return tape::Next::Bad(19, at);
-    }
-    if tables::MOST_CORNERS < c + n {
-        return tape::Next::Bad(19, at);
+    if tables::MOST_FACETS <= read.facets || tables::MOST_CORNERS < read.corners + n {
+        return Err(Refused::at(Refusal::Limit, at));
     }
     if tape.len() - at < 1 + 2 * n {
-        return tape::Next::Bad(20, at);
+        return Err(Refused::at(Refusal::Cut, at));
     }
-    tape::Next::Facet(n)
+    Ok(Record::Facet(n))
 }
 
 // CUT, COUNT and TAIL at the end record.
-fn look_end(tape: &[u8], at: usize, v: usize, f: usize) -> tape::Next
+fn look_end(tape: &[u8], at: usize, read: Counts) -> Result<Record, Refused>
     requires { at < length tape.now }
-    ensures { result ≡ end_at tape.now at v f }
+    ensures { result ≡ end_at tape.now at read.vertices read.facets }
 {
     let left = tape.len() - at;
     if left < 5 {
-        return tape::Next::Bad(20, at);
+        return Err(Refused::at(Refusal::Cut, at));
     }
-    if tape::unsigned_at(tape, at + 1) as usize != v {
-        return tape::Next::Bad(21, at);
-    }
-    if tape::unsigned_at(tape, at + 3) as usize != f {
-        return tape::Next::Bad(21, at);
+    if usize::from(tape::unsigned_at(tape, at + 1)) != read.vertices
+        || usize::from(tape::unsigned_at(tape, at + 3)) != read.facets
+    {
+        return Err(Refused::at(Refusal::Count, at));
     }
     if 5 < left {
-        return tape::Next::Bad(22, at + 5);
+        return Err(Refused::at(Refusal::Tail, at + 5));
     }
-    tape::Next::End
+    Ok(Record::End)
 }
 
-// What stands at an offset, where v points and f facets with c corners came before.
+// What stands at an offset, after records that add up to what was read.
 #[tactic(auto, unfolding(tape::specs::Reading::look_at))]
-pub fn look(tape: &[u8], at: usize, v: usize, f: usize, c: usize) -> tape::Next
-    requires { c ≤ most_corners }
-    ensures { result ≡ look_at tape.now at v f c }
+pub fn look(tape: &[u8], at: usize, read: Counts) -> Result<Record, Refused>
+    requires { read.corners ≤ most_corners }
+    ensures { result ≡ look_at tape.now at read.vertices read.facets read.corners }
 {
-    if tape.len() <= at {
-        return tape::Next::Bad(20, at);
+    let Some(&kind) = tape.get(at) else {
+        return Err(Refused::at(Refusal::Cut, at));
+    };
+    match kind {
+        0 => look_end(tape, at, read),
+        1 => look_point(tape, at, read),
+        3..=12 => look_facet(tape, at, read, usize::from(kind)),
+        _ => Err(Refused::at(Refusal::Kind, at)),
     }
-    let kind = tape[at] as usize;
-    if kind == 0 {
-        return look_end(tape, at, v, f);
-    }
-    if kind == 1 {
-        return look_point(tape, at, v, f);
-    }
-    if kind == 2 {
-        return tape::Next::Bad(17, at);
-    }
-    if tables::MOST_SIDES < kind {
-        return tape::Next::Bad(17, at);
-    }
-    look_facet(tape, at, f, c, kind)
 }

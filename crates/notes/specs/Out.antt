@@ -1,8 +1,7 @@
 -- What the functions for Rust and C tell of an answer: a number, and what they leave in `out`. Assumes nothing.
 use Rattle.std.specs.Prelude.{◌≡◌, List, [], ◌∷◌, ℕ, ℤ}
 use Rattle.answers.specs.declared.Answer.{Answer}
-use Rattle.reading.specs.Answer.{first_value, second_value, third_value}
-use Rattle.reading.specs.declared.Reading.{Reading}
+use Rattle.reading.specs.Answer.{Reading, first_value, second_value, third_value}
 use Rattle.outline.specs.declared.Verdict.{Verdict}
 use Rattle.walk.specs.declared.Walked.{Walked}
 use Rattle.lines.specs.Line.{number_of}

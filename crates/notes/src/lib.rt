@@ -39,17 +39,17 @@ pub fn note_verdict(out: &mut [i64], verdict: outline::Verdict) -> u16
 }
 
 // A reader's: V, F and corners, or the offset and zeros.
-pub fn note_reading(out: &mut [i64], read: reading::Reading) -> u16
+pub fn note_reading(out: &mut [i64], read: Result<reading::Counts, reading::Refused>) -> u16
     ensures { NumberAndNotes (answer_number read) (counts read) out.old out.new result }
 {
     match read {
-        reading::Reading::Read(v, f, c) => {
-            out::note_places(out, v, f, c);
+        Ok(counts) => {
+            out::note_places(out, counts.vertices, counts.facets, counts.corners);
             0
         }
-        reading::Reading::Refused(number, offset) => {
-            out::note_places(out, offset, 0, 0);
-            number
+        Err(refused) => {
+            out::note_places(out, refused.offset, 0, 0);
+            refused.number
         }
     }
 }

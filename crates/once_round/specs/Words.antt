@@ -1,5 +1,6 @@
 -- An outline by the rule sheet's words: its points, x and y in turn, the tests, and what they are to mean.
-use Rattle.std.specs.Prelude.{ℕ, ◌+◌, ◌-◌, ◌*◌, ◌/◌, ◌%◌, ◌<◌, ◌≤◌, ◌≡◌, ◌≢◌, Bool, true, not, ◌&&◌, ◌||◌, List, ltb, eqb, ℤ, pos, ◌-ℤ◌, length, get_or, ◌<ℤ◌}
+use Rattle.std.specs.Prelude.{ℕ, ◌+◌, ◌-◌, ◌*◌, ◌/◌, ◌%◌, ◌<◌, ◌≤◌, ◌≡◌, ◌≢◌, Bool, true, not, ◌&&◌, ◌||◌, List, [], ◌∷◌, ltb, eqb}
+use Rattle.std.specs.Prelude.{ℤ, pos, ◌-ℤ◌, length, get_or, ◌<ℤ◌}
 use Rattle.std.specs.Int.Signed.{lt_z}
 use Rattle.space.specs.Plane.{Vec, vec, sub, det}
 use Rattle.points.specs.Range.{is_out, InRange}
@@ -21,6 +22,10 @@ coord_of points i k = get_or points (i * 2 + k) (pos 0)
 -- coordinate k of the difference b-a of two points
 unfoldable pub difference_of : List ℤ → ℕ → ℕ → ℕ → ℤ
 difference_of points a b k = coord_of points b k -ℤ coord_of points a k
+
+-- b - a
+abbrev pub row_of : List ℤ → ℕ → ℕ → List ℤ
+row_of points a b = difference_of points a b 0 ∷ difference_of points a b 1 ∷ []
 
 abbrev pub point : List ℤ → ℕ → Vec ℤ
 point points i = vec (coord_of points i 0) (coord_of points i 1)

@@ -5,16 +5,12 @@ ghost use Rattle.std.specs.Prelude.{◌≡◌};
 ghost use Rattle.out.specs.Noted.{noted, three};
 
 // Puts numbers at the beginning of `out` where it is long enough, else leaves it.
+#[tactic(auto, unfolding(crate::specs::Noted::noted, whole::specs::Over::over))]
 pub fn note(out: &mut [i64], numbers: &[i64])
     ensures { out.new ≡ noted numbers.now out.old }
 {
-    if out.len() < numbers.len() {
-        return;
-    }
-    let mut i = 0;
-    while i < numbers.len() {
-        out[i] = numbers[i];
-        i += 1;
+    if numbers.len() <= out.len() {
+        out[..numbers.len()].copy_from_slice(numbers);
     }
 }
 
@@ -22,10 +18,6 @@ pub fn note(out: &mut [i64], numbers: &[i64])
 pub fn note_places(out: &mut [i64], first: usize, second: usize, third: usize)
     ensures { out.new ≡ noted (three first second third) out.old }
 {
-    let numbers = [
-        lines::number_of(first),
-        lines::number_of(second),
-        lines::number_of(third),
-    ];
+    let numbers = [first, second, third].map(lines::number_of);
     note(out, &numbers);
 }

@@ -4,7 +4,10 @@
 ghost use Rattle.std.specs.Prelude.{◌≡◌};
 ghost use Rattle.points.specs.Range.{InRange};
 ghost use Rattle.once_round.specs.Words.{few};
-ghost use Rattle.outline.specs.Outline.{judged_turns, judged_outline};
+ghost use Rattle.refusals.specs.Numbers.{number_of};
+ghost use Rattle.outline.specs.Outline.{verdict, judged_turns, judged_outline};
+
+use refusals::Refusal;
 
 // The answer to an outline: the sheet's number, and the count or a point's number.
 #[derive(Clone, Copy)]
@@ -13,17 +16,24 @@ pub struct Verdict {
     pub place: usize,
 }
 
+impl Verdict {
+    // A refusal, and the point that it names.
+    fn refused(refusal: Refusal, place: usize) -> Self
+        ensures { result ≡ verdict (number_of refusal) place }
+    {
+        Self {
+            number: refusal.number(),
+            place,
+        }
+    }
+}
+
 // Whether so many numbers are not in pairs, or their points too few or too many.
+#[tactic(auto, unfolding(once_round::specs::Words::few))]
 fn is_few(numbers: usize) -> bool
     ensures { result ≡ few numbers }
 {
-    if numbers % 2 != 0 {
-        return true;
-    }
-    if numbers / 2 < 3 {
-        return true;
-    }
-    4096 < numbers / 2
+    numbers % 2 != 0 || numbers / 2 < 3 || 4096 < numbers / 2
 }
 
 // The answer to points within the limits: LEFT, WOUND or acceptance.
@@ -31,24 +41,15 @@ fn judge_turns(points: &[i32]) -> Verdict
     requires { InRange points.now }
     ensures { result ≡ judged_turns points.now }
 {
-    let n = points.len() / 2;
-    let straight = left::first_not_left(points);
-    if straight < n {
-        return Verdict {
-            number: 25,
-            place: straight,
-        };
+    if let Some(place) = left::first_not_left(points) {
+        return Verdict::refused(Refusal::Left, place);
     }
-    let again = wound::second_far(points);
-    if again < n {
-        return Verdict {
-            number: 26,
-            place: again,
-        };
+    if let Some(place) = wound::second_far(points) {
+        return Verdict::refused(Refusal::Wound, place);
     }
     Verdict {
         number: 0,
-        place: n,
+        place: points.len() / 2,
     }
 }
 
@@ -58,17 +59,10 @@ pub fn judge_outline(points: &[i32]) -> Verdict
     ensures { result ≡ judged_outline points.now }
 {
     if is_few(points.len()) {
-        return Verdict {
-            number: 24,
-            place: 0,
-        };
+        return Verdict::refused(Refusal::Few, 0);
     }
-    let out = pairs::first_out(points);
-    if out < points.len() / 2 {
-        return Verdict {
-            number: 2,
-            place: out,
-        };
+    if let Some(place) = pairs::first_out(points) {
+        return Verdict::refused(Refusal::Range, place);
     }
     judge_turns(points)
 }

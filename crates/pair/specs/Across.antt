@@ -1,5 +1,5 @@
 -- The other side of an edge, where PAIR applies nowhere: the place of its reverse. Assumes nothing.
-use Rattle.std.specs.Prelude.{◌≡◌, refl, Bool, true, false, not, List, ℕ, ◌-◌, ◌≤◌, ◌<◌, eqb, ltb}
+use Rattle.std.specs.Prelude.{◌≡◌, refl, Bool, true, false, not, List, ℕ, ◌-◌, ◌≤◌, ◌<◌, eqb, ltb, None}
 use Rattle.std.proofs.Common.{sym, ap, ◌∙◌, arith}
 use Rattle.std.proofs.Math.ListN.{length}
 use borrow.Author.Tests.{eqb-true, eq-eqb, ltb-false, le-ltb, not-false}
@@ -9,8 +9,8 @@ use Rattle.tables.specs.Tables.{most_corners, home_of, next_of, from, to}
 use Rattle.tables.specs.Size.{Laid}
 use Rattle.tables.specs.Places.{Single, next-below, next-home, next-next_not}
 use Rattle.tables.specs.Search.{place_of}
-use Rattle.tables.specs.declared.Found.TheVariants.{Nothing}
 use Rattle.index.specs.Entries.{home_at, across_at}
+use Rattle.index.specs.declared.Edge.{Edge}
 use Rattle.edges.specs.Edge.{is_edge, last_edge, across_of, facet_across}
 use Rattle.edges.specs.Index.{Indexed, home_is, across_at-is, across_at-below, small}
 use Rattle.pair.specs.Pair.{times, unpaired, pair, Paired, pair-none, paired_none}
@@ -115,19 +115,19 @@ module _ {corners begins : List ℕ} (M : Matched corners begins) where
           in
           rw (le-ltb 1 (times corners begins a b) (few a b), eq-eqb _ _ n)
 
-pub pair-means : {corners begins : List ℕ} → Laid corners begins → place_of (pair corners begins) ≡ Nothing → Matched corners begins
+pub pair-means : {corners begins : List ℕ} → Laid corners begins → place_of (pair corners begins) ≡ None → Matched corners begins
 pair-means L e = matched (pair-none L e)
 
-pub means_pair : {corners begins : List ℕ} → Laid corners begins → Matched corners begins → place_of (pair corners begins) ≡ Nothing
+pub means_pair : {corners begins : List ℕ} → Laid corners begins → Matched corners begins → place_of (pair corners begins) ≡ None
 means_pair L M = paired_none L (paired_if M)
 
 -- ---- what the index holds where PAIR applies nowhere
 
-pub record Crossed (corners begins : List ℕ) (edges : List (List ℕ)) (heads : List ℕ) : Type 0 where
+pub record Crossed (corners begins : List ℕ) (edges : List Edge) (heads : List ℕ) : Type 0 where
   pub indexed : Indexed corners begins edges heads
   pub paired : Paired corners begins
 
-module _ {corners begins : List ℕ} {edges : List (List ℕ)} {heads : List ℕ} (C : Crossed corners begins edges heads) {p : ℕ} (l : p < length corners) where
+module _ {corners begins : List ℕ} {edges : List Edge} {heads : List ℕ} (C : Crossed corners begins edges heads) {p : ℕ} (l : p < length corners) where
   pub across_small : across_at edges p < most_corners
   across_small = small C.indexed (across_at-below C.indexed l)
 

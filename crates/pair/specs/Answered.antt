@@ -1,5 +1,5 @@
 -- PAIR by its answer: where every place is across from the place across from it, PAIR applies nowhere. Assumes nothing.
-use Rattle.std.specs.Prelude.{◌≡◌, Bool, false, not, ◌||◌, List, ℕ, ◌<◌, eqb, length}
+use Rattle.std.specs.Prelude.{◌≡◌, Bool, false, not, ◌||◌, List, ℕ, ◌<◌, eqb, length, None}
 use Rattle.std.proofs.Common.{sym, ap, ◌∙◌, eqb-true}
 use Rattle.std.proofs.lemmas.Bool.{not-false}
 use Rattle.whole.specs.First.{any_below, any_false}
@@ -7,8 +7,8 @@ use Rattle.whole.specs.Count.{neither}
 use Rattle.tables.specs.Tables.{from, to}
 use Rattle.tables.specs.Size.{Laid}
 use Rattle.tables.specs.Search.{place_of}
-use Rattle.tables.specs.declared.Found.TheVariants.{Nothing}
 use Rattle.index.specs.Entries.{end_at, across_at}
+use Rattle.index.specs.declared.Edge.{Edge}
 use Rattle.edges.specs.Edge.{across_of, across_below}
 use Rattle.edges.specs.Index.{Indexed, end_is, across_at-is, across_at-below}
 use Rattle.pair.specs.Pair.{pair}
@@ -23,7 +23,7 @@ abbrev pub unanswered : List ℕ → List ℕ → ℕ → Bool
 unanswered corners begins p = unlike corners begins p (across_of corners begins p)
 
 -- what the code reads
-pub unlike-entry : {corners begins : List ℕ} {edges : List (List ℕ)} {heads : List ℕ} {p q : ℕ} → Indexed corners begins edges heads → p < length corners
+pub unlike-entry : {corners begins : List ℕ} {edges : List Edge} {heads : List ℕ} {p q : ℕ} → Indexed corners begins edges heads → p < length corners
     → q ≡ across_at edges p
     → unanswered corners begins p
     ≡ (not (eqb (across_at edges q) p) || (not (eqb (from corners q) (end_at edges p)) || not (eqb (end_at edges q) (from corners p))))
@@ -52,5 +52,5 @@ module _ {corners begins : List ℕ} (h : any_below (unanswered corners begins) 
     reverse = λ p l. (_, (answered l).0);
   }
 
-  pub all_answered : Laid corners begins → place_of (pair corners begins) ≡ Nothing
+  pub all_answered : Laid corners begins → place_of (pair corners begins) ≡ None
   all_answered L = means_pair L matched

@@ -1,5 +1,5 @@
 -- Places as positions of facets: a search over the run finds the lowest facet and then the lowest position. Assumes nothing.
-use Rattle.std.specs.Prelude.{◌≡◌, Bool, List, ℕ, ◌+◌, ◌-◌, ◌<◌, length}
+use Rattle.std.specs.Prelude.{◌≡◌, Bool, List, ℕ, ◌+◌, ◌-◌, ◌<◌, length, Some, None}
 use Rattle.std.proofs.Common.{sym, ap, ◌∙◌, arith}
 use Rattle.std.proofs.Math.Decide.{dec_lt}
 use Rattle.whole.specs.First.{Nowhere, Lowest}
@@ -8,7 +8,6 @@ use Rattle.tables.specs.Size.{Laid}
 use Rattle.tables.specs.Places.{home, home_is, home_rise, corner-at, place_in, place-below}
 use Rattle.tables.specs.Found.{first_is, no_place_is}
 use Rattle.tables.specs.Search.{Search, of_places, place_of, applies_never}
-use Rattle.tables.specs.declared.Found.TheVariants.{At, Nothing}
 
 -- place p is position `at` of its facet
 pub record Position (corners begins : List ℕ) (p : ℕ) : Type 0 where
@@ -42,20 +41,20 @@ early {begins = begins} {p = p} L g q l k h =
     ]
 
 module _ {corners begins : List ℕ} (L : Laid corners begins) (test : ℕ → Bool) where
-  pub flat_hit : {p : ℕ} → Lowest test (length corners) p → At (home_of begins p) (p - begin begins (home_of begins p)) ≡ place_of (by_facets begins test)
+  pub flat_hit : {p : ℕ} → Lowest test (length corners) p → Some (home_of begins p, p - begin begins (home_of begins p)) ≡ place_of (by_facets begins test)
   flat_hit {p} w =
       let o = position L w.below in
       let z : p - begin begins (home_of begins p) ≡ o.at = omega (arith, o.is) in
-      ap (At (home_of begins p)) z ∙ sym (first_is (record {
+      ap (λ q. Some (home_of begins p, q)) z ∙ sym (first_is (record {
         facet = o.facet;
         place = record { below = o.side; holds = rw o.is w.holds; before = λ q k. w.before _ (omega (arith, o.is)) };
         earlier = λ g q k h. w.before _ (early L g q w.below k h);
       }))
 
-  pub flat_none : Nowhere test (length corners) → place_of (by_facets begins test) ≡ Nothing
+  pub flat_none : Nowhere test (length corners) → place_of (by_facets begins test) ≡ None
   flat_none h = no_place_is (λ f p l k. h _ (place-below L l k))
 
-  pub none_flat : place_of (by_facets begins test) ≡ Nothing → Nowhere test (length corners)
+  pub none_flat : place_of (by_facets begins test) ≡ None → Nowhere test (length corners)
   none_flat e p l =
       let o = position L l in
       rw o.is at (applies_never (by_facets begins test) e (home_of begins p) o.at o.facet o.side)

@@ -1,10 +1,9 @@
 -- Number 6, PAIR: "a directed edge occurs more than once, or its reverse doesn't occur exactly once". Assumes nothing.
-use Rattle.std.specs.Prelude.{◌≡◌, Bool, false, not, ◌||◌, List, ℕ, ◌<◌, eqb, ltb, length}
+use Rattle.std.specs.Prelude.{◌≡◌, Bool, false, not, ◌||◌, List, ℕ, ◌<◌, eqb, ltb, length, None}
 use Rattle.whole.specs.Count.{count_below}
 use Rattle.tables.specs.Tables.{from, to}
 use Rattle.tables.specs.Size.{Laid}
 use Rattle.tables.specs.Search.{Search, place_of}
-use Rattle.tables.specs.declared.Found.TheVariants.{Nothing}
 use Rattle.pair.specs.Flat.{by_facets, flat_none, none_flat}
 use Rattle.edges.specs.Edge.{is_edge}
 
@@ -25,8 +24,8 @@ pair corners begins = by_facets begins (unpaired corners begins)
 pub record Paired (corners begins : List ℕ) : Type 0 where
   pub paired : (p : ℕ) → p < length corners → unpaired corners begins p ≡ false
 
-pub pair-none : {corners begins : List ℕ} → Laid corners begins → place_of (pair corners begins) ≡ Nothing → Paired corners begins
+pub pair-none : {corners begins : List ℕ} → Laid corners begins → place_of (pair corners begins) ≡ None → Paired corners begins
 pair-none {corners} {begins} L e = record { paired = none_flat L (unpaired corners begins) e }
 
-pub paired_none : {corners begins : List ℕ} → Laid corners begins → Paired corners begins → place_of (pair corners begins) ≡ Nothing
+pub paired_none : {corners begins : List ℕ} → Laid corners begins → Paired corners begins → place_of (pair corners begins) ≡ None
 paired_none {corners} {begins} L P = flat_none L (unpaired corners begins) P.paired

@@ -12,10 +12,7 @@ ghost use Rattle.points.specs.Points.{Vertex, Ranged, coord_of, difference_of, r
 pub fn exceeds(x: i32, least: i32, most: i32) -> bool
     ensures { result ≡ (lt_z x least || lt_z most x) }
 {
-    if x < least {
-        return true;
-    }
-    most < x
+    x < least || most < x
 }
 
 // Whether a coordinate is outside its limits.
@@ -30,7 +27,7 @@ pub fn is_out(x: i32) -> bool
 pub fn widen(x: i32) -> i64
     ensures { result ≡ x }
 {
-    x as i64
+    i64::from(x)
 }
 
 // Entry k of a run of coordinates.
@@ -64,7 +61,7 @@ fn difference(points: &[i32], a: u16, b: u16, k: usize) -> i64
     requires { Ranged points.now × Vertex points.now a × Vertex points.now b × (k < 3) }
     ensures { Exact longest (difference_of points.now a b k) result }
 {
-    wide_coord(points, b as usize, k) - wide_coord(points, a as usize, k)
+    wide_coord(points, usize::from(b), k) - wide_coord(points, usize::from(a), k)
 }
 
 // The row of the difference b-a.

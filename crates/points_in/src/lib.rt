@@ -21,9 +21,7 @@ pub fn fill_points(tape: &[u8], at: usize, points: &mut [i32], n: usize)
     requires { (at + 7 * n ≤ length tape.now) × (n * 3 ≤ length points.old) }
     ensures { points.new ≡ over (points_at tape.now at n) points.old }
 {
-    let mut v = 0;
-    while v < n {
+    for v in 0..n {
         keep_point(points, v * 3, tape, at + 7 * v + 1);
-        v += 1;
     }
 }

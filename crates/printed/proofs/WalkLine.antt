@@ -1,12 +1,11 @@
 -- The walk program's line is one of those that the sheet's words name, and no other. Assumes nothing.
-use Rattle.std.specs.Prelude.{◌≡◌, refl, Bool, true, false, List, ℕ, ◌+◌, ◌*◌, ◌≤◌, ◌<◌, ℤ}
+use Rattle.std.specs.Prelude.{◌≡◌, refl, Bool, true, false, List, ℕ, ◌+◌, ◌*◌, ◌≤◌, ◌<◌, ℤ, Ok, Err}
 use Rattle.std.proofs.Math.Path.{sym, ap}
 use Rattle.std.proofs.Common.{◌∙◌, subst}
 use Rattle.std.proofs.Math.Decide.{ℕ_discrete, dec_lt}
 use native.Mathlib.Omega.{arith}
 use Rattle.tables.specs.Tables.{most_vertices}
-use Rattle.reading.specs.declared.Reading.{Reading}
-use Rattle.reading.specs.declared.Reading.TheVariants.{Read, Refused}
+use Rattle.reading.specs.Answer.{Reading, counted}
 use Rattle.tape.specs.Reading.{read_tape, points_at, corners_at, begins_at}
 use Rattle.accepts.specs.Meaning.{is_measured}
 use Rattle.direction.specs.Direction.{direction, is_wrong, permitted, wrong_exactly}
@@ -29,10 +28,10 @@ use Rattle.printed.specs.WalkLine.{moved, few_points, WalkLine, UNREAD, JUDGED, 
 module _ (tape input : List ℕ) where
   -- ---- the walk that is made on a tape that is read
 
-  few : {v f c : ℕ} → read_tape tape ≡ Read v f c → v ≤ most_vertices
+  few : {v f c : ℕ} → read_tape tape ≡ Ok (counted v f c) → v ≤ most_vertices
   few e = few_points tape e
 
-  module _ {v f c : ℕ} (read : read_tape tape ≡ Read v f c) where
+  module _ {v f c : ℕ} (read : read_tape tape ≡ Ok (counted v f c)) where
     is_walked : (d : Direction) (start : ℕ) → walked_at tape v f d start ≡ walked_tape tape d start
     unfolding walked_tape
     is_walked d start = rw read
@@ -91,16 +90,16 @@ module _ (tape input : List ℕ) where
       given : {zs : List ℤ} → WalkLine tape input zs → WalkLine tape input (walk_numbers tape input)
       given x = subst (WalkLine tape input) (walk-line_is x) x
 
-      from-direction : (t : Bool) {v f c : ℕ} → is_wrong (direction_in input) ≡ t → read_tape tape ≡ Read v f c → (judged_at tape v f).number ≡ 0
+      from-direction : (t : Bool) {v f c : ℕ} → is_wrong (direction_in input) ≡ t → read_tape tape ≡ Ok (counted v f c) → (judged_at tape v f).number ≡ 0
           → NamesStart input v (start_in input) → WalkLine tape input (walk_numbers tape input)
       from-direction true w e a n = given (DIRECTION e a n (λ x y z m. (wrong_exactly (direction_in input)).0 w (rw (named_direction m) m.permitted)))
       from-direction false w e a n = given (WALKED e a n (direction-named input (permitted (direction_in input) w)))
 
       go : (r : Reading) → read_tape tape ≡ r → WalkLine tape input (walk_numbers tape input)
-      go (Refused number offset) e = given (UNREAD e)
-      go (Read v f c) e = elim (ℕ_discrete (judged_at tape v f).number 0) [
+      go (Err refused) e = given (UNREAD e)
+      go (Ok read) e = elim (ℕ_discrete (judged_at tape read.vertices read.facets).number 0) [
         | no n ↦ given (JUDGED e n)
-        | yes a ↦ elim (dec_lt (start_in input) v) [
+        | yes a ↦ elim (dec_lt (start_in input) read.vertices) [
           | no l ↦ given (START e a (λ start n. absurd (omega (arith, says_start (few e) n.says n.below, n.below))))
           | yes l ↦ from-direction (is_wrong (direction_in input)) refl e a (start-named e l)
         ]

@@ -1,5 +1,5 @@
 -- A line, read again: its words are its numbers, and each reads as it was. Assumes nothing.
-use Rattle.std.specs.Prelude.{◌≡◌, refl, true, List, [], ◌∷◌, map, ℕ, zero, suc, ◌/◌, ◌%◌, ◌≤◌, ◌<◌, ℤ, pos, negsuc, length, get_or}
+use Rattle.std.specs.Prelude.{◌≡◌, refl, true, List, [], ◌∷◌, map, ℕ, zero, suc, ◌/◌, ◌%◌, ◌≤◌, ◌<◌, ℤ, pos, negsuc, length, get_or, Some}
 use Rattle.std.proofs.Common.{◌∙◌, ap, arith, length-append, le-leb, ne_eqb}
 use Rattle.std.proofs.Math.Decide.{dec_lt}
 use Rattle.std.proofs.Math.ListN.{get_or-append}
@@ -8,7 +8,6 @@ use Rattle.words.specs.Runs.{among, other, each, each-cons, each_append}
 use Rattle.words.specs.Words.{is_blank, words, words-word, words-gap}
 use Rattle.numbers.specs.Number.{is_digit, are_digits, digit-range, decimal, decimal-snoc, no_minus, is_number, value}
 use Rattle.numbers.specs.Reading.{most, read_of, clamp-is}
-use Rattle.numbers.specs.declared.Read.TheVariants.{Number}
 use Rattle.decimal.specs.Shown.{digit, digits, shown, digit-is, digits_are}
 use Rattle.lines.specs.Line.{after, line_of}
 
@@ -54,7 +53,7 @@ pub number_shown : (z : ℤ) → is_number (shown z) ≡ true
 number_shown (pos n) = rw (no_minus (digits n) (each-digit n)).1 (are_digits_lem n)
 number_shown (negsuc n) = are_digits_lem (suc n)
 
-pub read-shown : {z : ℤ} → z within most → read_of (shown z) ≡ Number z
+pub read-shown : {z : ℤ} → z within most → read_of (shown z) ≡ Some z
 read-shown {z} h = rw (number_shown z, value-shown z, clamp-is h)
 
 -- no leading zeros: but for "0" itself, the first digit is not 0

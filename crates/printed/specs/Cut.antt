@@ -1,9 +1,8 @@
 -- What is read of the two inputs settles what is printed: of a tape 21,510 bytes, of the walk program's other input 257. Assumes nothing.
-use Rattle.std.specs.Prelude.{◌≡◌, refl, List, ℕ, ◌+◌, ◌<◌, ltb, ℤ, length, take}
+use Rattle.std.specs.Prelude.{◌≡◌, refl, List, ℕ, ◌+◌, ◌<◌, ltb, ℤ, length, take, Ok, Err}
 use Rattle.std.proofs.Common.{ap, ap₂, ◌∙◌, arith, length-take, take_all, take-take, lt-ltb, le-ltb}
 use Rattle.std.proofs.Math.Decide.{dec_lt}
-use Rattle.reading.specs.declared.Reading.{Reading}
-use Rattle.reading.specs.declared.Reading.TheVariants.{Read, Refused}
+use Rattle.reading.specs.Answer.{Reading}
 use Rattle.tape.specs.Reading.{read_tape}
 use Rattle.longest.specs.Longest.{tape_room, read_short}
 use Rattle.longest.proofs.Sure.{read-cut}
@@ -26,8 +25,8 @@ of_tape-cut solid refusal tape = elim (dec_lt tape_room (length tape)) [
 ]
   where
     go : tape_room < length tape → (r : Reading) → read_tape tape ≡ r → of_tape solid refusal (take tape_room tape) r ≡ of_tape solid refusal tape r
-    go l (Read v f c) e = absurd (omega (arith, read_short tape e))
-    go l (Refused number offset) e = refl
+    go l (Ok read) e = absurd (omega (arith, read_short tape e))
+    go l (Err refused) e = refl
 
 pub judged-cut : (tape : List ℕ) → judged_tape (take tape_room tape) ≡ judged_tape tape
 unfolding judged_tape

@@ -1,10 +1,9 @@
 -- The judging program's line, in the sheet's words. Assumes nothing.
-use Rattle.std.specs.Prelude.{◌≡◌, refl, List, [], ◌∷◌, ℕ, ℤ, pos, take}
+use Rattle.std.specs.Prelude.{◌≡◌, refl, List, [], ◌∷◌, ℕ, ℤ, pos, take, Ok, Err}
 use Rattle.std.proofs.Common.{sym, subst, arith}
 use Rattle.std.proofs.Math.ListN.{length-take}
 use Rattle.answers.specs.declared.Answer.{Answer}
-use Rattle.reading.specs.declared.Reading.{Reading}
-use Rattle.reading.specs.declared.Reading.TheVariants.{Read, Refused}
+use Rattle.reading.specs.Answer.{Reading, counted, refused_at}
 use Rattle.tape.specs.Reading.{read_tape}
 use Rattle.longest.specs.Longest.{tape_room}
 use Rattle.longest.proofs.Sure.{read-cut}
@@ -22,12 +21,12 @@ placed a = pos a.number ∷ pos a.first ∷ pos a.second ∷ pos a.third ∷ []
 module _ (tape : List ℕ) where
   pub data JudgeLine : List ℤ → Type 0 where
     -- "For a reader's refusal the first place is the offset."
-    UNREAD : {number offset : ℕ} → read_tape tape ≡ Refused number offset → JudgeLine (pos number ∷ pos offset ∷ pos 0 ∷ pos 0 ∷ [])
+    UNREAD : {number offset : ℕ} → read_tape tape ≡ Err (refused_at number offset) → JudgeLine (pos number ∷ pos offset ∷ pos 0 ∷ pos 0 ∷ [])
     -- "reads, then judges"
-    JUDGED : {v f c : ℕ} → read_tape tape ≡ Read v f c → JudgeLine (placed (judged_at tape v f))
+    JUDGED : {v f c : ℕ} → read_tape tape ≡ Ok (counted v f c) → JudgeLine (placed (judged_at tape v f))
 
   -- a refusal of a tape of any length is one of its first 21,510 bytes
-  pub early : {number offset : ℕ} → read_tape tape ≡ Refused number offset → Refusal (take tape_room tape) number offset
+  pub early : {number offset : ℕ} → read_tape tape ≡ Err (refused_at number offset) → Refusal (take tape_room tape) number offset
   early e = read-refusal (take tape_room tape) (rw (read-cut tape) e)
 
   -- each of them is printed ..
@@ -46,5 +45,5 @@ module _ (tape : List ℕ) where
       given x = subst JudgeLine (judge_line_is x) x
 
       go : (r : Reading) → read_tape tape ≡ r → JudgeLine (judge_numbers tape)
-      go (Read v f c) e = given (JUDGED e)
-      go (Refused number offset) e = given (UNREAD e)
+      go (Ok read) e = given (JUDGED e)
+      go (Err refused) e = given (UNREAD e)

@@ -1,5 +1,5 @@
 -- What the start and the direction of the walk program's input stand for. Assumes nothing.
-use Rattle.std.specs.Prelude.{◌≡◌, refl, Bool, true, false, cond, List, [], ℕ, ◌≤◌, ◌<◌, ℤ, pos, negsuc, length}
+use Rattle.std.specs.Prelude.{◌≡◌, refl, Bool, true, false, cond, List, [], ℕ, ◌≤◌, ◌<◌, ℤ, pos, negsuc, length, Some, None}
 use Rattle.std.proofs.Common.{sym, ap, ◌∙◌, arith}
 use Rattle.std.proofs.lemmas.Bool.{false≢true}
 use Rattle.whole.specs.Bounds.{◌within◌, within-≤, not_exceeds, exceeds}
@@ -7,7 +7,6 @@ use Rattle.tables.specs.Tables.{most_vertices}
 use Rattle.words.specs.Words.{is_blank, words, word_of}
 use Rattle.numbers.specs.Number.{is_number, value}
 use Rattle.numbers.specs.Reading.{clamp, read_of, clamp-is, clamp-below, within-clamp}
-use Rattle.numbers.specs.declared.Read.TheVariants.{Number, Malformed}
 use Rattle.direction.specs.Direction.{direction, steepest, Permitted}
 use Rattle.input.specs.Input.{longest, split, start_of, no_vertex, negative, no_part, part_of}
 
@@ -35,15 +34,15 @@ module _ {v : ℕ} (few : v ≤ most_vertices) where
   pub start_says : (word : List ℕ) → start_of (read_of word) < v → Says word (pos (start_of (read_of word)))
   start_says word l = go (is_number word) refl l
     where
-      size : (z : ℤ) → start_of (Number (clamp z)) < v → z ≡ pos (start_of (Number (clamp z)))
+      size : (z : ℤ) → start_of (Some (clamp z)) < v → z ≡ pos (start_of (Some (clamp z)))
       size (pos n) l = ap pos (omega arith)
       size (negsuc n) l =
           let below = clamp-below (negsuc n) (pos 0) {N = 0} (omega arith) (record { abs = omega arith }) in
-          let e : start_of (Number (clamp (negsuc n))) ≡ no_vertex = negative (clamp (negsuc n)) below in
+          let e : start_of (Some (clamp (negsuc n))) ≡ no_vertex = negative (clamp (negsuc n)) below in
           absurd (omega arith)
 
-      go : (t : Bool) → is_number word ≡ t → start_of (cond t (Number (clamp (value word))) Malformed) < v
-          → Says word (pos (start_of (cond t (Number (clamp (value word))) Malformed)))
+      go : (t : Bool) → is_number word ≡ t → start_of (cond t (Some (clamp (value word))) None) < v
+          → Says word (pos (start_of (cond t (Some (clamp (value word))) None)))
       go true e l = record { is_number_lem = e; is_value = size (value word) l }
       go false e l = absurd (omega arith)
 
@@ -59,8 +58,8 @@ part_says word h = go (is_number word) refl h
     kept z true e h = absurd (omega (arith, h.abs))
     kept z false e h = (h, refl)
 
-    go : (t : Bool) → is_number word ≡ t → part_of (cond t (Number (clamp (value word))) Malformed) within steepest
-        → Says word (part_of (cond t (Number (clamp (value word))) Malformed))
+    go : (t : Bool) → is_number word ≡ t → part_of (cond t (Some (clamp (value word))) None) within steepest
+        → Says word (part_of (cond t (Some (clamp (value word))) None))
     go true e h =
         let (k, q) = kept (clamp (value word)) (exceeds steepest (clamp (value word))) refl h in
         record { is_number_lem = e; is_value = sym (q ∙ (within-clamp (value word) {N = steepest} (omega arith) k).1) }

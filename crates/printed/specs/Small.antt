@@ -4,9 +4,8 @@ use Rattle.std.proofs.Common.{arith, lit≤}
 use Rattle.points.specs.Points.{vertices}
 use Rattle.tables.specs.Tables.{facets, sides, most_corners}
 use Rattle.tables.specs.Search.{Search, of_all, of_each, of_places, AppliesFirst}
-use Rattle.answers.specs.Answer.{answer_of}
+use Rattle.answers.specs.Answer.{Outcome, answer_of}
 use Rattle.answers.specs.Order.{Rule, Given, here, after, none, given}
-use Rattle.answers.specs.declared.Fault.{Fault}
 use Rattle.answers.specs.declared.Answer.{Answer}
 use Rattle.judge.specs.Judge.{rules, judged}
 use Rattle.lines.specs.Line.{number_of_lem}
@@ -45,7 +44,7 @@ EachFew [] = Unit {0}
 EachFew (r ∷ rs) = (T (leb r.number most_corners) × Few r.search) × EachFew rs
 
 module _ {points : List ℤ} {corners begins : List ℕ} (S : SmallTables points corners begins) where
-  small_answer : {rs : List Rule} {x : Fault} → EachFew rs → Given rs x → SmallAnswer (answer_of points corners begins x)
+  small_answer : {rs : List Rule} {x : Outcome} → EachFew rs → Given rs x → SmallAnswer (answer_of points corners begins x)
   small_answer e (here {r} h) =
       let (a, b) = small_place r.search e.0.1 h in
       record { number = lit≤ e.0.0; first = a; second = b; third = omega arith }

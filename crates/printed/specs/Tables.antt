@@ -1,5 +1,5 @@
 -- The tables of a tape that is read: the judge's answer to them, the walk on them, and that they are small. Assumes nothing.
-use Rattle.std.specs.Prelude.{◌≡◌, List, ℕ, ◌+◌, ◌*◌, ◌≤◌, length, get_or}
+use Rattle.std.specs.Prelude.{◌≡◌, List, ℕ, ◌+◌, ◌*◌, ◌≤◌, length, get_or, Ok}
 use Rattle.std.proofs.Math.Decide.{dec_lt}
 use Rattle.std.proofs.Common.{mul-div_cancel, arith, lit<}
 use Rattle.std.proofs.Math.ListN.{get_or-eq_default}
@@ -10,7 +10,7 @@ use Rattle.answers.specs.declared.Answer.{Answer}
 use Rattle.judge.specs.Judge.{judged}
 use Rattle.tape.specs.Reading.{read_tape, points_at, corners_at, begins_at, length-points_at}
 use Rattle.tape.specs.Whole.{Whole, read_whole, corners_rise}
-use Rattle.reading.specs.declared.Reading.TheVariants.{Read}
+use Rattle.reading.specs.Answer.{counted}
 use Rattle.direction.specs.declared.Direction.{Direction}
 use Rattle.walk.specs.Walk.{walked}
 use Rattle.walk.specs.declared.Walked.{Walked}
@@ -48,5 +48,5 @@ module _ (tape : List ℕ) (v f : ℕ) where
       few_sides = λ k. omega (arith, small_begin (k + 1));
     }
 
-pub small_at : (tape : List ℕ) {v f c : ℕ} → read_tape tape ≡ Read v f c → SmallAnswer (judged_at tape v f)
+pub small_at : (tape : List ℕ) {v f c : ℕ} → read_tape tape ≡ Ok (counted v f c) → SmallAnswer (judged_at tape v f)
 small_at tape {v} {f} read = small_judged (small_tables tape v f (read_whole read))

@@ -2,7 +2,7 @@
 use Rattle.std.specs.Prelude.{List, ℕ, ◌+◌, ◌*◌, ℤ}
 use Rattle.reading.specs.Room.{room_first}
 use Rattle.reading.specs.Filled.{filled_by}
-use Rattle.reading.specs.declared.Reading.{Reading}
+use Rattle.reading.specs.Answer.{Reading}
 use Rattle.tape.specs.Reading.{read_tape, points_at, corners_at, begins_at}
 
 -- each table, by what the tape is read as

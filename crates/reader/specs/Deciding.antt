@@ -1,15 +1,14 @@
 -- Where the deciding pass stands: it knows the numbers, and what the records from here on come to. Assumes nothing.
-use Rattle.std.specs.Prelude.{◌≡◌, refl, List}
+use Rattle.std.specs.Prelude.{◌≡◌, refl, List, Ok, Err}
 use Prim.Native.Nat.{ℕ, zero, suc, ◌+◌, ◌*◌, ◌≤◌, ◌<◌}
 use Rattle.std.proofs.Common.{arith}
 use Rattle.std.proofs.Math.ListN.{length}
 use Rattle.tables.specs.Tables.{most_vertices, most_facets, most_corners}
-use Rattle.tape.specs.Reading.{look_at, after, run, read_tape}
+use Rattle.tape.specs.Reading.{Next, look_at, after, run, read_tape}
 use Rattle.tape.specs.Whole.{Looks}
-use Rattle.tape.specs.declared.Next.{Next}
-use Rattle.tape.specs.declared.Next.TheVariants.{Point, Facet, End, Bad}
-use Rattle.reading.specs.declared.Reading.{Reading}
-use Rattle.reading.specs.declared.Reading.TheVariants.{Read, Refused}
+use Rattle.tape.specs.declared.Record.TheVariants.{Point, Facet, End}
+use Rattle.reading.specs.declared.Refused.{Refused}
+use Rattle.reading.specs.Answer.{Reading, counted}
 
 pub record Stands (s : List ℕ) (look : ℕ → ℕ → ℕ → ℕ → Next) (o : Reading) (at v f c : ℕ) : Type 0 where
   pub left : ℕ
@@ -47,7 +46,7 @@ module _ {s : List ℕ} {look : ℕ → ℕ → ℕ → ℕ → Next} (L : Looks
       go zero h q = absurd (omega (arith, st.inside))
       go (suc k) h q = record { rest = k; ahead = h; same = rw e at q }
 
-  pub stands_point : look at v f c ≡ Point → Stands s look o (at + 7) (v + 1) f c
+  pub stands_point : look at v f c ≡ Ok Point → Stands s look o (at + 7) (v + 1) f c
   stands_point e =
       let n = next e in
       let k = L.point at v f c e in
@@ -61,7 +60,7 @@ module _ {s : List ℕ} {look : ℕ → ℕ → ℕ → ℕ → Next} (L : Looks
         same = n.same;
       }
 
-  pub stands_facet : {m : ℕ} → look at v f c ≡ Facet m → Stands s look o (at + (1 + 2 * m)) v (f + 1) (c + m)
+  pub stands_facet : {m : ℕ} → look at v f c ≡ Ok (Facet m) → Stands s look o (at + (1 + 2 * m)) v (f + 1) (c + m)
   stands_facet {m} e =
       let n = next e in
       let k = L.facet at v f c m e in
@@ -75,8 +74,8 @@ module _ {s : List ℕ} {look : ℕ → ℕ → ℕ → ℕ → Next} (L : Looks
         same = n.same;
       }
 
-  pub stands_end : look at v f c ≡ End → Read v f c ≡ o
+  pub stands_end : look at v f c ≡ Ok End → Ok (counted v f c) ≡ o
   stands_end e = (next e).same
 
-  pub stands_bad : {number offset : ℕ} → look at v f c ≡ Bad number offset → Refused number offset ≡ o
+  pub stands_bad : {refused : Refused} → look at v f c ≡ Err refused → Err refused ≡ o
   stands_bad e = (next e).same

@@ -1,49 +1,40 @@
--- What the reader owes, by what the tape is read as, and what lent room gives. Assumes nothing.
-use Rattle.std.specs.Prelude.{◌≡◌, refl, true, false, List, ℕ, ◌+◌, ◌*◌, ◌≤◌, ℤ, length}
+-- What the filling pass needs, and what lent room gives. Assumes nothing.
+use Rattle.std.specs.Prelude.{◌≡◌, Bool, true, false, cond, List, ℕ, ◌+◌, ◌*◌, ◌≤◌, ℤ, length, Ok, Err}
 use Rattle.std.proofs.Common.{arith}
-use Rattle.whole.specs.Over.{over}
-use Rattle.reading.specs.Room.{no_room, Roomy}
-use Rattle.reading.specs.declared.Reading.{Reading}
-use Rattle.reading.specs.declared.Reading.TheVariants.{Read, Refused}
-use Rattle.tape.specs.Reading.{read_tape, points_at, corners_at, begins_at}
+use Rattle.reading.specs.Room.{no_room, Roomy, roomy}
+use Rattle.reading.specs.declared.Counts.{Counts}
+use Rattle.reading.specs.Answer.{refused_at}
+use Rattle.tape.specs.Reading.{read_tape}
 use Rattle.tape.specs.Whole.{Whole, place_0, place_rises}
 use Rattle.facets_in.specs.Filling.{Fillable}
-use Rattle.reader.specs.Answer.{reading, points_after, corners_after, begins_after}
+use Rattle.reader.specs.Answer.{reading}
 
 -- what the filling pass needs
-module _ {tape : List ℕ} {v f c : ℕ} (w : Whole tape v f c) {points : List ℤ} {corners begins : List ℕ} (r : Roomy points corners begins) where
+module _ {tape : List ℕ} {v f c : ℕ} (w : Whole tape v f c) where
   pub points-inside : 7 * v ≤ length tape
   points-inside = omega (arith, place_rises tape (7 * v) 0 f (omega arith), place_0 tape (7 * v), w.records.facets.inside)
 
-  pub for_points : (0 + 7 * v ≤ length tape) × (v * 3 ≤ length points)
-  for_points = (omega (arith, points-inside), omega (arith, w.records.few, r.point_room))
+  module _ (points : List ℤ) (corners begins : List ℕ) (room : no_room (length points) (length corners) (length begins) ≡ false) where
+    pub for_points : (0 + 7 * v ≤ length tape) × (v * 3 ≤ length points)
+    for_points = let r : Roomy points corners begins = roomy room in (omega (arith, points-inside), omega (arith, w.records.few, r.point_room))
 
-  pub for_facets : Fillable tape (7 * v) f corners begins
-  for_facets = record {
-    facets = w.records.facets;
-    run_room = r.corner_room;
-    begin_room = omega (arith, w.records.facets.few, r.begin_room);
-  }
+    pub for_facets : Fillable tape (7 * v) f corners begins
+    for_facets =
+        let r : Roomy points corners begins = roomy room in
+        record {
+          facets = w.records.facets;
+          run_room = r.corner_room;
+          begin_room = omega (arith, w.records.facets.few, r.begin_room);
+        }
 
 module _ (tape : List ℕ) (points : List ℤ) (corners begins : List ℕ) where
-  pub no_room_lem : no_room (length points) (length corners) (length begins) ≡ true → reading tape points corners begins ≡ Refused 16 0
-  no_room_lem e = rw e
-
   pub with_room : no_room (length points) (length corners) (length begins) ≡ false → reading tape points corners begins ≡ read_tape tape
   with_room e = rw e
 
-  -- an answer, and the tables as they are left
-  abbrev pub Owed : Reading → List ℤ → List ℕ → List ℕ → Type 0
-  Owed answer newPoints newCorners newBegins =
-      (answer ≡ reading tape points corners begins)
-      × ((newPoints ≡ points_after tape points corners begins)
-      × ((newCorners ≡ corners_after tape points corners begins) × (newBegins ≡ begins_after tape points corners begins)))
-
-  pub refusing : {number offset : ℕ} → reading tape points corners begins ≡ Refused number offset
-      → Owed (Refused number offset) points corners begins
-  refusing e = rw e (refl, (refl, (refl, refl)))
-
-  pub accepting : {v f c : ℕ} {newPoints : List ℤ} {newCorners newBegins : List ℕ} → reading tape points corners begins ≡ Read v f c
-      → newPoints ≡ over (points_at tape 0 v) points → newCorners ≡ over (corners_at tape (7 * v) f) corners
-      → newBegins ≡ over (begins_at tape (7 * v) (f + 1)) begins → Owed (Read v f c) newPoints newCorners newBegins
-  accepting e p c b = rw e (refl, (p, (c, b)))
+  -- an acceptance is the tape's
+  pub read-accepted : {read : Counts} → reading tape points corners begins ≡ Ok read → read_tape tape ≡ Ok read
+  read-accepted {read} e = go (no_room (length points) (length corners) (length begins)) e
+    where
+      go : (t : Bool) → cond t (Err (refused_at 16 0)) (read_tape tape) ≡ Ok read → read_tape tape ≡ Ok read
+      go true q = let z : ◌≡◌ {A = ℕ} 0 1 = cc in absurd (omega arith)
+      go false q = q

@@ -5,27 +5,32 @@ ghost use Rattle.std.specs.Prelude.{◌≡◌};
 ghost use Rattle.tape.specs.Reading.{read_tape};
 ghost use Rattle.reader.specs.Answer.{reading, points_after, corners_after, begins_after};
 
+use reading::{Counts, Refused};
+use refusals::Refusal;
+use tape::Record;
+
 // The deciding pass: what the records add up to, or the first bad one.
-fn decide(tape: &[u8]) -> reading::Reading
+fn decide(tape: &[u8]) -> Result<Counts, Refused>
     ensures { result ≡ read_tape tape.now }
 {
     let mut at = 0;
-    let mut v = 0;
-    let mut f = 0;
-    let mut c = 0;
+    let mut read = Counts {
+        vertices: 0,
+        facets: 0,
+        corners: 0,
+    };
     loop {
-        match look::look(tape, at, v, f, c) {
-            tape::Next::Point => {
+        match look::look(tape, at, read)? {
+            Record::Point => {
                 at += 7;
-                v += 1;
+                read.vertices += 1;
             }
-            tape::Next::Facet(n) => {
+            Record::Facet(n) => {
                 at += 1 + 2 * n;
-                f += 1;
-                c += n;
+                read.facets += 1;
+                read.corners += n;
             }
-            tape::Next::End => return reading::Reading::Read(v, f, c),
-            tape::Next::Bad(number, offset) => return reading::Reading::Refused(number, offset),
+            Record::End => return Ok(read),
         }
     }
 }
@@ -36,21 +41,17 @@ pub fn read_tape(
     points: &mut [i32],
     corners: &mut [u16],
     begins: &mut [u16],
-) -> reading::Reading
+) -> Result<Counts, Refused>
     ensures answer { result ≡ reading tape.now points.old corners.old begins.old }
     ensures points { points.new ≡ points_after tape.now points.old corners.old begins.old }
     ensures corners { corners.new ≡ corners_after tape.now points.old corners.old begins.old }
     ensures begins { begins.new ≡ begins_after tape.now points.old corners.old begins.old }
 {
     if reading::no_room(points.len(), corners.len(), begins.len()) {
-        return reading::Reading::Refused(16, 0);
+        return Err(Refused::at(Refusal::Room, 0));
     }
-    match decide(tape) {
-        reading::Reading::Read(v, f, c) => {
-            points_in::fill_points(tape, 0, points, v);
-            facets_in::fill_facets(tape, 7 * v, corners, begins, f);
-            reading::Reading::Read(v, f, c)
-        }
-        reading::Reading::Refused(number, offset) => reading::Reading::Refused(number, offset),
-    }
+    let read = decide(tape)?;
+    points_in::fill_points(tape, 0, points, read.vertices);
+    facets_in::fill_facets(tape, 7 * read.vertices, corners, begins, read.facets);
+    Ok(read)
 }

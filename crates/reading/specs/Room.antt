@@ -1,9 +1,8 @@
 -- The room that must be lent to a reader, and what it gives. Assumes nothing.
-use Rattle.std.specs.Prelude.{◌≡◌, Bool, false, cond, ◌||◌, List, ℕ, ◌≤◌, ltb, ℤ, length}
+use Rattle.std.specs.Prelude.{◌≡◌, Bool, false, cond, ◌||◌, List, ℕ, ◌≤◌, ltb, ℤ, length, Err}
 use Rattle.std.proofs.Common.{ltb-false}
 use Rattle.whole.specs.Count.{neither}
-use Rattle.reading.specs.declared.Reading.{Reading}
-use Rattle.reading.specs.declared.Reading.TheVariants.{Refused}
+use Rattle.reading.specs.Answer.{Reading, refused_at}
 
 -- "fewer than 3,072 point, 6,144 corner or 2,049 begin entries lent"
 abbrev pub point_room : ℕ
@@ -20,7 +19,7 @@ no_room points corners begins = ltb points point_room || (ltb corners corner_roo
 
 -- "16 ROOM (offset 0), before anything else"
 abbrev pub room_first : List ℤ → List ℕ → List ℕ → Reading → Reading
-room_first points corners begins read = cond (no_room (length points) (length corners) (length begins)) (Refused 16 0) read
+room_first points corners begins read = cond (no_room (length points) (length corners) (length begins)) (Err (refused_at 16 0)) read
 
 -- tables with room
 pub record Roomy (points : List ℤ) (corners begins : List ℕ) : Type 0 where

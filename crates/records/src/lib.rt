@@ -24,10 +24,8 @@ fn put_body(rest: &mut [u8], numbers: &[u16])
     requires { 1 + 2 * length numbers.now ≤ length rest.old }
     ensures { rest.new ≡ sets rest.old 1 (packed numbers.now) }
 {
-    let mut k = 0;
-    while k < numbers.len() {
-        tape::put_unsigned(rest, 1 + 2 * k, numbers[k]);
-        k += 1;
+    for (k, number) in numbers.iter().enumerate() {
+        tape::put_unsigned(rest, 1 + 2 * k, *number);
     }
 }
 

@@ -1,5 +1,5 @@
 -- Number 11, REFLEX, by its row of the sheet's table.
-use Rattle.std.specs.Prelude.{Bool, false, cond, not, List, ℕ, ◌+◌, eqb, ℤ, length, get_or}
+use Rattle.std.specs.Prelude.{◌≡◌, refl, Bool, false, cond, not, List, ℕ, ◌+◌, eqb, ℤ, length, get_or}
 use Rattle.whole.specs.First.{any_below}
 use Rattle.sides.specs.Sides.{is_inside}
 use Rattle.tables.specs.Tables.{facets, begin, sides, facet_of}
@@ -23,6 +23,15 @@ reflex_at points part other p = some_not_inside points part other (get_or part p
 unfoldable pub is_reflex : List ℤ → List ℕ → List ℕ → ℕ → ℕ → Bool
 is_reflex points corners begins f p =
     reflex_at points (facet_of corners begins f) (facet_of corners begins (facet_across corners begins (begin begins f + p))) p
+
+-- the same, shut, and what is tested at position p of facet f
+unfoldable pub folds : List ℤ → List ℕ → List ℕ → ℕ → Bool
+folds points part other p = reflex_at points part other p
+
+pub reflex_is : (points : List ℤ) (corners begins : List ℕ) (f p : ℕ) → is_reflex points corners begins f p
+    ≡ folds points (facet_of corners begins f) (facet_of corners begins (facet_across corners begins (begin begins f + p))) p
+unfolding is_reflex folds
+reflex_is points corners begins f p = refl
 
 abbrev pub reflex : List ℤ → List ℕ → List ℕ → Search
 reflex points corners begins = of_places (facets begins) (sides begins) (is_reflex points corners begins)

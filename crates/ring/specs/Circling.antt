@@ -7,6 +7,7 @@ use Rattle.whole.specs.Count.{bit, count-but}
 use Rattle.whole.specs.Orbit.{iterate, iterate-more}
 use Rattle.tables.specs.Tables.{most_vertices, most_corners}
 use Rattle.index.specs.Entries.{back_at, head_at}
+use Rattle.index.specs.declared.Edge.{Edge}
 use Rattle.edges.specs.Chains.{leaves, Chains, On, Met, falls, met_0, met_more, met_all}
 use Rattle.edges.specs.Index.{leaves-each}
 use Rattle.edges.specs.Along.{link_place}
@@ -15,7 +16,7 @@ use Rattle.ring.specs.Step.{round_of, step-below}
 use Rattle.ring.specs.Ring.{start, is_back, broken}
 
 -- after i steps from p, none of which led back, it stands at q; the chain has i + 1 places before link k
-pub record Circling (corners begins : List ℕ) (edges : List (List ℕ)) (heads : List ℕ) (v p q k : ℕ) : Type 0 where
+pub record Circling (corners begins : List ℕ) (edges : List Edge) (heads : List ℕ) (v p q k : ℕ) : Type 0 where
   pub crossed : Crossed corners begins edges heads
   pub i : ℕ
   pub first : p ≡ start corners v
@@ -24,7 +25,7 @@ pub record Circling (corners begins : List ℕ) (edges : List (List ℕ)) (heads
   pub unmet : Nowhere (is_back corners begins p) i
   pub met : Met corners v (leaves corners v) (i + 1) k
 
-module _ {corners begins : List ℕ} {edges : List (List ℕ)} {heads : List ℕ} (C : Crossed corners begins edges heads) where
+module _ {corners begins : List ℕ} {edges : List Edge} {heads : List ℕ} (C : Crossed corners begins edges heads) where
   chains : Chains corners edges heads (length corners)
   chains = (leaves-each C.indexed).chains
 
@@ -60,11 +61,8 @@ module _ {corners begins : List ℕ} {edges : List (List ℕ)} {heads : List ℕ
       pub circling_none : head_at heads v ≡ 0 → false ≡ broken corners begins v
       circling_none e = let n = met_all begun (omega arith) in sym (any_none _ _ (λ j l. absurd (omega arith)))
 
-module _ {corners begins : List ℕ} {edges : List (List ℕ)} {heads : List ℕ} {v p q k : ℕ} (T : Circling corners begins edges heads v p q k) where
+module _ {corners begins : List ℕ} {edges : List Edge} {heads : List ℕ} {v p q k : ℕ} (T : Circling corners begins edges heads v p q k) where
   module _ (h : 0 < k) where
-    pub turn_small : k - 1 < most_corners
-    turn_small = link_small T.crossed T.met.on h
-
     pub turn_falls : back_at edges (k - 1) < k
     turn_falls = falls (chains T.crossed) h T.met.on
 

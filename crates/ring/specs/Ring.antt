@@ -1,5 +1,5 @@
 -- Number 7, RING: "the facets at a vertex, stepped across edges at that vertex, make more than one ring". Assumes nothing.
-use Rattle.std.specs.Prelude.{◌≡◌, ◌↔◌, Bool, true, false, List, ℕ, ◌+◌, ◌-◌, ◌<◌, eqb, length}
+use Rattle.std.specs.Prelude.{◌≡◌, ◌↔◌, Bool, true, false, List, ℕ, ◌+◌, ◌-◌, ◌<◌, eqb, length, None}
 use Rattle.std.proofs.Common.{ap, ◌∙◌, le_refl, arith, eqb-true, eq-eqb}
 use Rattle.std.proofs.Math.Decide.{dec_lt}
 use Rattle.std.proofs.lemmas.Bool.{eqb-false}
@@ -10,7 +10,6 @@ use Rattle.tables.specs.Tables.{from}
 use Rattle.tables.specs.Size.{Laid}
 use Rattle.tables.specs.Found.{nowhere_is}
 use Rattle.tables.specs.Search.{Search, of_each, place_of, applies_never}
-use Rattle.tables.specs.declared.Found.TheVariants.{Nothing}
 use Rattle.edges.specs.Chains.{leaves, last_of}
 use Rattle.pair.specs.Pair.{Paired}
 use Rattle.ring.specs.Step.{round_of, steps}
@@ -133,8 +132,8 @@ module _ {corners begins : List ℕ} (L : Laid corners begins) (P : Paired corne
 -- ---- RING finds nothing exactly where the facets at each vertex make one ring
 
 module _ {corners begins : List ℕ} (L : Laid corners begins) (P : Paired corners begins) (n : ℕ) where
-  pub ring-means : place_of (ring n corners begins) ≡ Nothing → (v : ℕ) → v < n → OneRing corners begins v
+  pub ring-means : place_of (ring n corners begins) ≡ None → (v : ℕ) → v < n → OneRing corners begins v
   ring-means e v l = one_ring L P v (applies_never (ring n corners begins) e v l)
 
-  pub means_ring : ((v : ℕ) → v < n → OneRing corners begins v) → place_of (ring n corners begins) ≡ Nothing
+  pub means_ring : ((v : ℕ) → v < n → OneRing corners begins v) → place_of (ring n corners begins) ≡ None
   means_ring h = nowhere_is (λ v l. ring-one L P v (h v l))

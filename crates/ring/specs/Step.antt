@@ -5,6 +5,7 @@ use Rattle.tables.specs.Tables.{home_of, next_in, next_of, from}
 use Rattle.tables.specs.Size.{Laid}
 use Rattle.tables.specs.Places.{next-below, next-home, next-once}
 use Rattle.index.specs.Entries.{home_at, across_at}
+use Rattle.index.specs.declared.Edge.{Edge}
 use Rattle.edges.specs.Chains.{leaves}
 use Rattle.edges.specs.Edge.{across_of}
 use Rattle.edges.specs.Index.{home_is, across_at-is, across_at-below}
@@ -42,7 +43,7 @@ module _ {corners begins : List ℕ} (L : Laid corners begins) (P : Paired corne
   }
 
 -- what the code reads: the place across, and its facet
-pub step-entry : {corners begins : List ℕ} {edges : List (List ℕ)} {heads : List ℕ} {p q f : ℕ} → Crossed corners begins edges heads
+pub step-entry : {corners begins : List ℕ} {edges : List Edge} {heads : List ℕ} {p q f : ℕ} → Crossed corners begins edges heads
     → p < length corners → q ≡ across_at edges p → f ≡ home_at edges q → next_in begins f q ≡ round_of corners begins p
 unfolding round_of next_of
 step-entry C l e h = rw (h, e, home_is C.indexed (across_at-below C.indexed l), across_at-is C.indexed l)

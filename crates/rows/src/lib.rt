@@ -2,9 +2,7 @@
 #![tactic(auto)]
 
 ghost use Rattle.std.specs.Prelude.{◌≡◌, ◌<◌};
-ghost use Rattle.whole.specs.Bounds.{Exact};
-ghost use Rattle.space.specs.Vectors.{◌·◌};
-ghost use Rattle.space.specs.Rows.{BoundedRow, ThreeRows, longest, widest, broadest, largest, vec_of, det_of};
+ghost use Rattle.space.specs.Rows.{BoundedRow, ThreeRows, longest, widest, det_of};
 ghost use Rattle.space.specs.Nought.{is_nought};
 ghost use Rattle.rows.specs.Cross.{MinorAt, CrossProduct};
 
@@ -13,7 +11,7 @@ fn minor_at(p: [i64; 3], q: [i64; 3], j: usize, k: usize) -> i64
     requires { BoundedRow widest p × BoundedRow longest q × (j < 3) × (k < 3) }
     ensures { MinorAt p q j k result }
 {
-    space::minor(p[j], p[k], q[j], q[k])
+    space::minor([p[j], p[k]], [q[j], q[k]])
 }
 
 // The cross product of a normal or a difference and a difference.
@@ -28,20 +26,12 @@ pub fn cross(p: [i64; 3], q: [i64; 3]) -> [i64; 3]
     ]
 }
 
-// The sum of the products of two rows.
-fn along(n: [i64; 3], r: [i64; 3]) -> i64
-    requires { BoundedRow broadest n × BoundedRow longest r }
-    ensures { Exact largest (vec_of n · vec_of r) result }
-{
-    space::dot(n[0], n[1], n[2], r[0], r[1], r[2])
-}
-
 // The determinant of three rows of three whole numbers, along the last row, so that the other two can be worked out once for many.
 pub fn determinant(m: [[i64; 3]; 3]) -> i64
     requires { ThreeRows m }
     ensures { result ≡ det_of m }
 {
-    along(cross(m[0], m[1]), m[2])
+    space::dot(cross(m[0], m[1]), m[2])
 }
 
 // Whether a vector is nought.
@@ -49,11 +39,5 @@ pub fn is_nought(n: [i64; 3]) -> bool
     requires { BoundedRow widest n }
     ensures { result ≡ is_nought n }
 {
-    if !space::is_zero(n[0]) {
-        return false;
-    }
-    if !space::is_zero(n[1]) {
-        return false;
-    }
-    space::is_zero(n[2])
+    n.iter().all(|x| space::is_zero(*x))
 }

@@ -2,7 +2,7 @@
 // a read or a write that fails) they print no line and return what failed, which `main` says on standard error.
 #![tactic(auto)]
 
-ghost use Rattle.std.specs.Prelude.{◌≡◌, ◌≤◌, ℕ, length, take, IfOk, OnOk, OnErr};
+ghost use Rattle.std.specs.Prelude.{◌≤◌, ℕ, length, take, IfOk, OnOk, OnErr};
 ghost use Rattle.std.specs.Io.KnownBytes.{Appends};
 ghost use Rattle.whole.specs.Begin.{Begin};
 
@@ -24,11 +24,18 @@ pub struct Fault<'a> {
     error: io::Error,
 }
 
+impl<'a> Fault<'a> {
+    fn new<E: Into<io::Error>>(what: &'a str, error: E) -> Fault<'a> {
+        Fault {
+            what,
+            error: error.into(),
+        }
+    }
+}
+
 impl fmt::Display for Fault<'_> {
     fn fmt<W: fmt::Write>(&self, f: &mut fmt::Formatter<W>) -> fmt::Result {
-        let what = self.what;
-        let error = self.error;
-        write!(f, "{what}: {error}")
+        write!(f, "{}: {}", self.what, self.error)
     }
 }
 
@@ -41,16 +48,6 @@ impl fmt::Debug for Fault<'_> {
 
 impl Error for Fault<'_> {}
 
-// How many bytes were read where no read failed.
-fn len_of<'a>(what: &'a str, taken: streams::Taken) -> Result<usize, Fault<'a>>
-    ensures { IfOk result (λ n. n ≡ taken.len) }
-{
-    match taken.failed {
-        None => Ok(taken.len),
-        Some(error) => Err(Fault { what, error }),
-    }
-}
-
 // Prints the bytes of a line.
 pub fn print<W: Write>(writer: &mut W, line: lines::Line) -> io::Result<()>
     requires { Begin line.len line.bytes }
@@ -58,40 +55,29 @@ pub fn print<W: Write>(writer: &mut W, line: lines::Line) -> io::Result<()>
     ensures err { OnErr result ((n : ℕ) × (n ≤ line.len)
         × Appends (W.contents writer.old) (W.contents writer.new) (take n line.bytes)) }
 {
-    let bytes = line.bytes;
-    let len = line.len;
-    streams::write_all(writer, &bytes[..len])
+    streams::write_all(writer, &line.bytes[..line.len])
 }
 
 // Prints a line on standard output.
 fn put<R: Print>(rt: &R, line: lines::Line) -> Result<(), Fault<'static>>
     requires { Begin line.len line.bytes }
 {
-    match print(&mut io::writer(rt), line) {
-        Ok(()) => Ok(()),
-        Err(error) => Err(Fault {
-            what: "standard output",
-            error,
-        }),
-    }
+    print(&mut io::writer(rt), line).map_err(|error| Fault::new("standard output", error))
 }
 
 // Reads standard input, as much as there is room for.
 fn read_input<R: Input>(rt: &R, buf: &mut [u8]) -> Result<usize, Fault<'static>>
     ensures { IfOk result (λ n. Begin n buf.new) }
 {
-    len_of("standard input", streams::read_all(&mut rt.reader(), buf))
+    streams::read_all(&mut rt.reader(), buf).map_err(|cut| Fault::new("standard input", cut))
 }
 
 // A file's name as text, which the library asks for.
 fn text_of(name: &[u8]) -> Result<&str, Fault<'static>> {
-    match std::str::from_utf8(name) {
-        Ok(text) => Ok(text),
-        Err(_) => Err(Fault {
-            what: "the file's name",
-            error: io::Error::new(ErrorKind::InvalidInput, "not UTF-8"),
-        }),
-    }
+    std::str::from_utf8(name).map_err(|_| {
+        let error = io::Error::new(ErrorKind::InvalidInput, "not UTF-8");
+        Fault::new("the file's name", error)
+    })
 }
 
 // Reads a file, as much as there is room for; one that isn't there counts as empty.
@@ -100,9 +86,9 @@ fn read_file<'a, R: Files>(rt: &R, name: &'a [u8], buf: &mut [u8]) -> Result<usi
 {
     let what = text_of(name)?;
     match fs::open(rt, what) {
-        Ok(mut file) => len_of(what, streams::read_all(&mut file, buf)),
-        Err(e) if e.kind() == ErrorKind::NotFound => Ok(0),
-        Err(error) => Err(Fault { what, error }),
+        Ok(mut file) => streams::read_all(&mut file, buf).map_err(|cut| Fault::new(what, cut)),
+        Err(error) if error.kind() == ErrorKind::NotFound => Ok(0),
+        Err(error) => Err(Fault::new(what, error)),
     }
 }
 

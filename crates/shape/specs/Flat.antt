@@ -1,5 +1,5 @@
 -- BENT and TURN in plain quantifiers: they find nothing exactly where each facet is flat and turns left. Assumes nothing.
-use Rattle.std.specs.Prelude.{◌≡◌, ◌≢◌, Bool, true, false, cond, not, ◌&&◌, List, ℕ, ◌<◌, eqb, ℤ, pos, length}
+use Rattle.std.specs.Prelude.{◌≡◌, ◌≢◌, Bool, true, false, cond, not, ◌&&◌, List, ℕ, ◌<◌, eqb, ℤ, pos, length, None}
 use Rattle.std.proofs.Math.Path.{sym}
 use Rattle.std.proofs.Common.{ap, ◌∙◌, add-one, arith, eq-eqb, ne_eqb}
 use Rattle.std.proofs.Math.Bool.{true≢false}
@@ -17,7 +17,6 @@ use Rattle.tables.specs.Size.{Laid}
 use Rattle.tables.specs.Places.{part_length, sides-some}
 use Rattle.tables.specs.Found.{no_place_is}
 use Rattle.tables.specs.Search.{place_of, applies_never}
-use Rattle.tables.specs.declared.Found.TheVariants.{Nothing}
 use Rattle.flat.specs.Rules.{is_bent, bent, bent-later, bent-third, no_bend}
 use Rattle.turn.specs.Rules.{normal_in, strays, is_turn, turn}
 use Rattle.bridge.specs.Surface.{tables_of}
@@ -79,7 +78,7 @@ module _ (points : List ℤ) {corners begins : List ℕ} (L : Laid corners begin
     unfolding is_turn
     turned_if i h = any_none _ (length (facet_of corners begins f)) (λ j k. rw (next-is f i l) (h j (rw (part_length L l) at k)))
 
-  pub flat : place_of (bent points corners begins) ≡ Nothing → place_of (turn points corners begins) ≡ Nothing → Flat t
+  pub flat : place_of (bent points corners begins) ≡ None → place_of (turn points corners begins) ≡ None → Flat t
   unfolding normal
   flat b u =
       let B = applies_never (bent points corners begins) b in
@@ -91,11 +90,11 @@ module _ (points : List ℤ) {corners begins : List ℕ} (L : Laid corners begin
             above_zero _ (other-than _ _ _ _ (turned f p.facet i j (U f i p.facet p.position) q.position) ca cb);
       }
 
-  pub flat_bent : Flat t → place_of (bent points corners begins) ≡ Nothing
+  pub flat_bent : Flat t → place_of (bent points corners begins) ≡ None
   flat_bent F = no_place_is (λ f p l h. no_bend points (facet_of corners begins f) (line_not f l (F.not_in_line f l))
       (λ q k m. zero-on (F.on_plane {i = q} (record { facet = l; position = rw (part_length L l) at m }) k)) p (rw (part_length L l) h))
 
-  pub flat_turn : Flat t → place_of (turn points corners begins) ≡ Nothing
+  pub flat_turn : Flat t → place_of (turn points corners begins) ≡ None
   unfolding normal
   flat_turn F = no_place_is (λ f p l h. turned_if f l p (λ j k. passed _ _ _ _ (λ ca cb.
       true_lt_z (F.turn {i = p} {j = j} (record { facet = l; position = h }) (record { facet = l; position = k }) ca cb))))

@@ -1,5 +1,5 @@
 -- REFLEX in plain quantifiers, where PAIR passes: it finds nothing exactly where no edge is reflex. Assumes nothing.
-use Rattle.std.specs.Prelude.{◌≡◌, false, List, ℕ, ◌+◌, ◌-◌, ◌<◌, ℤ, length}
+use Rattle.std.specs.Prelude.{◌≡◌, false, List, ℕ, ◌+◌, ◌-◌, ◌<◌, ℤ, length, None}
 use Rattle.std.proofs.Math.Path.{sym}
 use Rattle.std.proofs.Common.{ap, ◌∙◌, arith}
 use Rattle.whole.specs.First.{any_false, any_none}
@@ -9,7 +9,6 @@ use Rattle.tables.specs.Size.{Laid}
 use Rattle.tables.specs.Places.{part_length, place_in, home, home_is}
 use Rattle.tables.specs.Found.{no_place_is}
 use Rattle.tables.specs.Search.{place_of, applies_never}
-use Rattle.tables.specs.declared.Found.TheVariants.{Nothing}
 use Rattle.edges.specs.Edge.{across_of, facet_across}
 use Rattle.pair.specs.Pair.{Paired}
 use Rattle.pair.specs.Across.{across, edge-once}
@@ -69,7 +68,7 @@ module _ (points : List ℤ) {corners begins : List ℕ} (L : Laid corners begin
     facing_none f i l e g k s m h =
         rw (next-is points L f i l) at (any_false _ (length (facet_of corners begins g)) (rw s at e) m (omega (arith, part_length L k)))
 
-    pub no_reflex : place_of (reflex points corners begins) ≡ Nothing → Reflex t
+    pub no_reflex : place_of (reflex points corners begins) ≡ None → Reflex t
     no_reflex e =
         let R = applies_never (reflex points corners begins) e in
         record {
@@ -79,7 +78,7 @@ module _ (points : List ℤ) {corners begins : List ℕ} (L : Laid corners begin
               inside_below _ (other-than _ _ _ _ (facing_none f i p.facet h g q.facet b m k.position) ca cb);
         }
 
-    pub reflex_none : Reflex t → place_of (reflex points corners begins) ≡ Nothing
+    pub reflex_none : Reflex t → place_of (reflex points corners begins) ≡ None
     unfolding is_reflex
     reflex_none R = no_place_is (λ f i l h.
         let p : Place t f i = record { facet = l; position = h } in

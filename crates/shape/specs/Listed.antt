@@ -6,21 +6,22 @@ use native.Mathlib.Omega.{arith}
 use Rattle.std.proofs.Math.Decide.{ℕ_discrete, dec_lt}
 use Rattle.tables.specs.Tables.{most_vertices, from}
 use Rattle.index.specs.Entries.{head_at, back_at}
+use Rattle.index.specs.declared.Edge.{Edge}
 use Rattle.edges.specs.Chains.{leaves, Chains, On, on_0, on_more, falls, gap_0, gap_more}
 
 -- the link that follows link q: 0 follows 0
-abbrev pub onward : List (List ℕ) → ℕ → ℕ
+abbrev pub onward : List Edge → ℕ → ℕ
 onward edges q = cond (eqb q 0) 0 (back_at edges (q - 1))
 
 -- link k of the chain of v, from 0
-unfoldable pub link_at : List (List ℕ) → List ℕ → ℕ → ℕ → ℕ
+unfoldable pub link_at : List Edge → List ℕ → ℕ → ℕ → ℕ
 link_at edges heads v zero = head_at heads v
 link_at edges heads v (suc k) = onward edges (link_at edges heads v k)
 
-past_end : (edges : List (List ℕ)) (q : ℕ) → q ≡ 0 → onward edges q ≡ 0
+past_end : (edges : List Edge) (q : ℕ) → q ≡ 0 → onward edges q ≡ 0
 past_end edges q e = rw (eq-eqb q 0 e)
 
-module _ {corners : List ℕ} {edges : List (List ℕ)} {heads : List ℕ} (C : Chains corners edges heads (length corners)) {v : ℕ}
+module _ {corners : List ℕ} {edges : List Edge} {heads : List ℕ} (C : Chains corners edges heads (length corners)) {v : ℕ}
     (l : v < most_vertices) where
   L : ℕ → ℕ
   L k = link_at edges heads v k

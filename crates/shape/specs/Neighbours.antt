@@ -2,6 +2,7 @@
 use Rattle.std.specs.Prelude.{◌≡◌, List, ℕ, suc, ◌<◌, length}
 use Rattle.std.proofs.Common.{◌∙◌}
 use Rattle.tables.specs.Tables.{most_vertices, from, to}
+use Rattle.index.specs.declared.Edge.{Edge}
 use Rattle.edges.specs.Chains.{Chains}
 use Rattle.shape.specs.Listed.{link_at, only_leaving, each-leaving}
 use Rattle.pair.specs.Pair.{Paired}
@@ -18,7 +19,7 @@ leaving_edge P (leads p h s e) = (p, h, s, e)
 leaving_edge P (arrives p h s e) = let r = across P h in (_, r.below, r.starts ∙ e, r.ends ∙ s)
 
 -- so the chain of v has them all, and no other
-module _ {corners begins : List ℕ} {edges : List (List ℕ)} {heads : List ℕ} (C : Chains corners edges heads (length corners)) {v u : ℕ}
+module _ {corners begins : List ℕ} {edges : List Edge} {heads : List ℕ} (C : Chains corners edges heads (length corners)) {v u : ℕ}
     (l : v < most_vertices) where
   pub on_chain : Paired corners begins → Neighbour corners begins v u → (k p : ℕ) × (link_at edges heads v k ≡ suc p) × (to corners begins p ≡ u)
   on_chain P n =

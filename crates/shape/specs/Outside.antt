@@ -1,5 +1,5 @@
 -- OUTSIDE in plain quantifiers: it finds nothing exactly where every vertex is inside every facet of which it is no corner. Assumes nothing.
-use Rattle.std.specs.Prelude.{◌≡◌, refl, Bool, true, false, cond, not, List, ℕ, ◌<◌, ℤ}
+use Rattle.std.specs.Prelude.{◌≡◌, refl, Bool, true, false, cond, not, List, ℕ, ◌<◌, ℤ, None}
 use Rattle.std.proofs.Common.{sym, ◌∙◌, arith}
 use Rattle.std.proofs.Math.Bool.{true≢false}
 use Rattle.std.proofs.Math.ListN.{length}
@@ -13,7 +13,6 @@ use Rattle.tables.specs.Size.{Laid}
 use Rattle.tables.specs.Places.{part_length}
 use Rattle.tables.specs.Found.{no_place_is}
 use Rattle.tables.specs.Search.{place_of, applies_never}
-use Rattle.tables.specs.declared.Found.TheVariants.{Nothing}
 use Rattle.bridge.specs.Surface.{tables_of}
 use Rattle.solid.specs.Tables.{Tables, Corner, Outside, Inside}
 use Rattle.scan.specs.Rules.{is_outside, outside}
@@ -61,10 +60,10 @@ module _ (points : List ℤ) {corners begins : List ℕ} (L : Laid corners begin
     unfolding is_outside named?
     not_outside h = unseen _ (named? f w) (λ s. below_inside (h (λ c. true≢false (sym (of_corner c) ∙ s))))
 
-  pub inside : place_of (outside points corners begins) ≡ Nothing → Outside t
+  pub inside : place_of (outside points corners begins) ≡ None → Outside t
   inside e =
       let none = applies_never (outside points corners begins) e in
       record { inside = λ f w l k. inside_of f w l (none f w l k) }
 
-  pub inside_outside : Outside t → place_of (outside points corners begins) ≡ Nothing
+  pub inside_outside : Outside t → place_of (outside points corners begins) ≡ None
   inside_outside O = no_place_is (λ f w l k. not_outside f w l (O.inside f w l k))

@@ -1,5 +1,5 @@
 -- The short way of OUTSIDE: where 1 to 11 pass, it is enough to test the neighbours of each facet's corners. Assumes nothing.
-use Rattle.std.specs.Prelude.{◌≡◌, refl, Bool, true, false, List, ℕ, ◌+◌, ◌-◌, ◌<◌, ℤ, length, get_or}
+use Rattle.std.specs.Prelude.{◌≡◌, refl, Bool, true, false, List, ℕ, ◌+◌, ◌-◌, ◌<◌, ℤ, length, get_or, None}
 use Rattle.std.proofs.Math.Path.{sym}
 use Rattle.std.proofs.Common.{◌∙◌, true≢false, arith}
 use borrow.Author.Tests.{ltb-true, ltb-false}
@@ -9,7 +9,6 @@ use Rattle.points.specs.Range.{limit}
 use Rattle.tables.specs.Tables.{facets, begin, facet_of, corner_of, from, to}
 use Rattle.tables.specs.Places.{part_length, next-below}
 use Rattle.tables.specs.Search.{place_of, applies_never}
-use Rattle.tables.specs.declared.Found.TheVariants.{Nothing}
 use Rattle.edges.specs.Chains.{leaves}
 use Rattle.flat.specs.Facet.{Measured}
 use Rattle.bridge.specs.Surface.{tables_of, sized_tables, place-names, place-runs}
@@ -64,7 +63,7 @@ module _ {points : List ℤ} {corners begins : List ℕ} (M : Measured points co
 
 -- so OUTSIDE finds nothing where the local test finds nothing
 pub near-enough : {points : List ℤ} {corners begins : List ℕ} → Passed points corners begins → near points corners begins ≡ false
-    → place_of (outside points corners begins) ≡ Nothing
+    → place_of (outside points corners begins) ≡ None
 near-enough {points} p e =
     let m = p.measured in
     inside_outside points m.sound.laid
@@ -72,7 +71,7 @@ near-enough {points} p e =
 
 -- and where the local test finds a vertex, OUTSIDE applies: no scan is made in vain
 pub near-needed : {points : List ℤ} {corners begins : List ℕ} → Measured points corners begins → near points corners begins ≡ true
-    → place_of (outside points corners begins) ≡ Nothing → ⊥
+    → place_of (outside points corners begins) ≡ None → ⊥
 unfolding near near_part is_near leads_out
 near-needed {points} {corners} {begins} m e o =
     let facet : ℕ → Bool = near_facet points corners begins in

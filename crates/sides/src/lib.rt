@@ -6,8 +6,10 @@ ghost use Rattle.space.specs.Rows.{BoundedRow, ExactRow, widest};
 ghost use Rattle.points.specs.Points.{Vertex};
 ghost use Rattle.sides.specs.Sides.{Three, normal_of, sign, side_of, in_line, is_left, is_inside, is_on};
 
+use std::cmp::Ordering;
+
 // Where a point lies against a plane.
-#[derive(Clone, Copy)]
+#[derive(Clone, Copy, PartialEq, Eq)]
 pub enum Side {
     Inside,
     On,
@@ -18,35 +20,25 @@ pub enum Side {
 fn sign(volume: i64) -> Side
     ensures { result ≡ sign volume }
 {
-    if space::is_below(volume) {
-        return Side::Inside;
+    match volume.cmp(&0) {
+        Ordering::Less => Side::Inside,
+        Ordering::Equal => Side::On,
+        Ordering::Greater => Side::Outside,
     }
-    if space::is_above(volume) {
-        return Side::Outside;
-    }
-    Side::On
 }
 
 // Whether a side is strictly inside.
 pub fn is_inside(side: Side) -> bool
     ensures { result ≡ is_inside side }
 {
-    match side {
-        Side::Inside => true,
-        Side::On => false,
-        Side::Outside => false,
-    }
+    side == Side::Inside
 }
 
 // Whether a side is on the plane.
 pub fn is_on(side: Side) -> bool
     ensures { result ≡ is_on side }
 {
-    match side {
-        Side::Inside => false,
-        Side::On => true,
-        Side::Outside => false,
-    }
+    side == Side::On
 }
 
 // The side of the plane through a, b and c that d is on.

@@ -1,5 +1,5 @@
 -- "The table of sixteen": cases A to P in the sheet's order, each with its question and the sheet's answer, and the one statement over them all.
-use Rattle.std.specs.Prelude.{◌≡◌, refl, ℕ, ℤ, pos, neg_ℤ, take, replicate, get_or}
+use Rattle.std.specs.Prelude.{◌≡◌, refl, ℕ, ℤ, pos, neg_ℤ, take, replicate, get_or, Ok, Err}
 use mathlib.Core.List.{List, [], ◌∷◌, ◌++◌, map}
 use Rattle.whole.specs.First.{first_below}
 use Rattle.whole.specs.Count.{count_below, last_below}
@@ -39,8 +39,7 @@ use Rattle.whole.specs.Over.{over}
 use Rattle.tape.specs.Records.{packed}
 use Rattle.tape.specs.Reading.{look_at, run, read_tape, place}
 use Rattle.reader.specs.Answer.{reading, points_after, corners_after, begins_after}
-use Rattle.reading.specs.declared.Reading.{Reading}
-use Rattle.reading.specs.declared.Reading.TheVariants.{Read, Refused}
+use Rattle.reading.specs.Answer.{Reading, counted, refused_at}
 use Rattle.writer.specs.Answer.{written, buffer_after}
 
 -- ---- what can be asked, and what is answered
@@ -193,8 +192,8 @@ table =
     ∷ row O (outline (xy (pos 4) (pos 0) ++ xy (minus 3) (pos 2) ++ xy (pos 1) (minus 4) ++ xy (pos 1) (pos 4) ++ xy (minus 3) (minus 2)))
     (of_outline (verdict 26 3))
     ∷ row P (write T (replicate 64 9)) (of_writer (of_length 61) (tape_t ++ (9 ∷ 9 ∷ 9 ∷ [])))
-    ∷ row P (read tape_t lent) (of_reader (Read 4 4 12) lent-T)
-    ∷ row P (read (take 60 tape_t) lent) (of_reader (Refused 20 56) lent)
+    ∷ row P (read tape_t lent) (of_reader (Ok (counted 4 4 12)) lent-T)
+    ∷ row P (read (take 60 tape_t) lent) (of_reader (Err (refused_at 20 56)) lent)
     ∷ []
 
 -- the sheet's letters in its order: C, H and I have two rows, P three

@@ -36,10 +36,14 @@ pub record ExactRow (N : ℕ) (z r : List ℤ) : Type 0 where
   pub is : r ≡ z
   pub small : BoundedRow N r
 
--- the determinant r of a b and c d, smaller where a b is of a difference
-pub record Minored (a b c d r : ℤ) : Type 0 where
-  pub exact : Exact broadest (plane.det (plane.vec a b) (plane.vec c d)) r
-  pub small : Difference a → Difference b → Minor r
+-- a row of two as a vector in the plane
+abbrev pub plane_of : List ℤ → plane.Vec ℤ
+plane_of r = plane.vec (get_or r 0 (pos 0)) (get_or r 1 (pos 0))
+
+-- the determinant r of two rows of two, smaller where the first is of a difference
+pub record Minored (p q : List ℤ) (r : ℤ) : Type 0 where
+  pub exact : Exact broadest (plane.det (plane_of p) (plane_of q)) r
+  pub small : BoundedRow longest p → Minor r
 
 -- the first row may be a normal, the other two are differences
 pub record ThreeRows (m : List (List ℤ)) : Type 0 where
@@ -73,6 +77,17 @@ row_of {N} {x} {y} {z} p q r = record { at = each }
 -- a row of differences may stand in the first place
 pub row-wide : {r : List ℤ} → BoundedRow longest r → BoundedRow widest r
 row-wide h = record { at = λ j. within-≤ (h.at j) (omega arith) }
+
+pub pair_of : {N : ℕ} {x y : ℤ} → x within N → y within N → BoundedRow N (x ∷ y ∷ [])
+pair_of {N} {x} {y} p q = record { at = each }
+  where
+    each : (j : ℕ) → get_or (x ∷ y ∷ []) j (pos 0) within N
+    each zero = p
+    each (suc zero) = q
+    each (suc (suc j)) = record { abs = zero-le }
+
+pub exact-pair : {N : ℕ} {a b x y : ℤ} → Exact N a x → Exact N b y → ExactRow N (a ∷ b ∷ []) (x ∷ y ∷ [])
+exact-pair p q = record { is = λ i. p.is i ∷ q.is i ∷ []; small = pair_of p.small q.small }
 
 pub exact-row : {N : ℕ} {a b c x y z : ℤ} → Exact N a x → Exact N b y → Exact N c z → ExactRow N (a ∷ b ∷ c ∷ []) (x ∷ y ∷ z ∷ [])
 exact-row p q r = record { is = λ i. p.is i ∷ q.is i ∷ r.is i ∷ []; small = row_of p.small q.small r.small }

@@ -2,27 +2,26 @@
 #![tactic(auto)]
 
 ghost use Rattle.std.specs.Prelude.{◌≡◌};
-ghost use Rattle.whole.specs.Bounds.{◌within◌, Exact};
-ghost use Rattle.space.specs.Vec.{vec};
+ghost use Rattle.whole.specs.Bounds.{Exact};
 ghost use Rattle.space.specs.Vectors.{◌·◌};
-ghost use Rattle.space.specs.Rows.{Difference, Minor, broadest, largest, Minored};
+ghost use Rattle.space.specs.Rows.{BoundedRow, longest, widest, broadest, largest, Minored, vec_of};
 ghost use Rattle.space.specs.Nought.{is_below, is_above, is_zero};
 
-// The determinant of the rows a b, of a normal or a difference, and c d, of a difference.
-pub fn minor(a: i64, b: i64, c: i64, d: i64) -> i64
-    requires { Minor a × Minor b × Difference c × Difference d }
-    ensures { Minored a b c d result }
+// The determinant of two rows of two, the first of a normal or a difference, the second of a difference.
+pub fn minor(p: [i64; 2], q: [i64; 2]) -> i64
+    requires { BoundedRow widest p × BoundedRow longest q }
+    ensures { Minored p q result }
 {
-    a * d - b * c
+    p[0] * q[1] - p[1] * q[0]
 }
 
 // The sum of the products of two rows of three.
-pub fn dot(a: i64, b: i64, c: i64, x: i64, y: i64, z: i64) -> i64
-    requires normal { a within broadest × b within broadest × c within broadest }
-    requires difference { Difference x × Difference y × Difference z }
-    ensures { Exact largest (vec a b c · vec x y z) result }
+pub fn dot(n: [i64; 3], r: [i64; 3]) -> i64
+    requires normal { BoundedRow broadest n }
+    requires difference { BoundedRow longest r }
+    ensures { Exact largest (vec_of n · vec_of r) result }
 {
-    a * x + b * y + c * z
+    n[0] * r[0] + n[1] * r[1] + n[2] * r[2]
 }
 
 // Whether a number is below 0.
@@ -43,8 +42,5 @@ pub fn is_above(x: i64) -> bool
 pub fn is_zero(x: i64) -> bool
     ensures { result ≡ is_zero x }
 {
-    if is_below(x) {
-        return false;
-    }
-    !is_above(x)
+    x == 0
 }

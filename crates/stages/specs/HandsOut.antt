@@ -1,12 +1,11 @@
 -- What the two tables of the index hold after each answer, by its number. Assumes nothing.
-use Rattle.std.specs.Prelude.{◌≡◌, Bool, true, false, cond, not, ◌&&◌, List, ℕ, leb}
+use Rattle.std.specs.Prelude.{◌≡◌, Bool, true, false, cond, not, ◌&&◌, List, ℕ, leb, Ok, Err}
 use Rattle.std.proofs.Common.{sym, ap, ◌∙◌}
 use Rattle.std.proofs.Math.Bool.{not-not}
-use Rattle.answers.specs.Answer.{fault_number}
+use Rattle.answers.specs.Answer.{Outcome, fault_number}
 use Rattle.answers.specs.Order.{Rule, first_of, each, fault-passes}
-use Rattle.answers.specs.declared.Fault.{Fault}
-use Rattle.answers.specs.declared.Fault.TheVariants.{Breaks, None}
 use Rattle.index.specs.Entries.{Fresh}
+use Rattle.index.specs.declared.Edge.{Edge}
 use Rattle.edges.specs.Index.{Indexed, one_index}
 
 -- 1 to 5 are looked for without the index of the edges: PAIR is the first rule that speaks of edges
@@ -14,11 +13,11 @@ abbrev pub is_early : ℕ → Bool
 is_early number = leb 1 number && leb number 5
 
 -- "what every lent entry then holds, on all inputs and all refusals": after 1 to 5 the tables are blank, as they were lent, and else they hold the index
-abbrev pub HandsOut : ℕ → List ℕ → List ℕ → List (List ℕ) → List ℕ → Type 0
+abbrev pub HandsOut : ℕ → List ℕ → List ℕ → List Edge → List ℕ → Type 0
 HandsOut number corners begins edges heads = cond (is_early number) (Fresh edges heads) (Indexed corners begins edges heads)
 
 -- no two outcomes satisfy a promise of one answer and of these tables by its number
-module _ (corners begins : List ℕ) {edges edges' : List (List ℕ)} {heads heads' : List ℕ} where
+module _ (corners begins : List ℕ) {edges edges' : List Edge} {heads heads' : List ℕ} where
   one_hand_out : (early : Bool) → cond early (Fresh edges heads) (Indexed corners begins edges heads)
       → cond early (Fresh edges' heads') (Indexed corners begins edges' heads') → (edges ≡ edges') × (heads ≡ heads')
   one_hand_out true f g = (f.rows ∙ sym g.rows, f.links ∙ sym g.links)
@@ -31,9 +30,9 @@ module _ (corners begins : List ℕ) {edges edges' : List (List ℕ)} {heads hea
       (e ∙ sym f, rows, links)
 
 -- rules from 6 on hand out the index, broken or not
-pub hands_index : {corners begins : List ℕ} {edges : List (List ℕ)} {heads : List ℕ} (rs : List Rule) → each (λ n. not (is_early n)) rs ≡ true
-    → (x : Fault) → x ≡ first_of rs → Indexed corners begins edges heads → HandsOut (fault_number x) corners begins edges heads
-hands_index rs s (Breaks number a b) e I =
+pub hands_index : {corners begins : List ℕ} {edges : List Edge} {heads : List ℕ} (rs : List Rule) → each (λ n. not (is_early n)) rs ≡ true
+    → (x : Outcome) → x ≡ first_of rs → Indexed corners begins edges heads → HandsOut (fault_number x) corners begins edges heads
+hands_index rs s (Err x) e I =
     let late = fault-passes (λ n. not (is_early n)) rs s (sym e) in
-    rw (sym (not-not (is_early number)) ∙ ap not late) I
-hands_index rs s None e I = I
+    rw (sym (not-not (is_early x.number)) ∙ ap not late) I
+hands_index rs s (Ok _) e I = I

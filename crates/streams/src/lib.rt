@@ -1,7 +1,7 @@
 // Reading and writing that go on where a signal interrupts them, and tell where they fail.
 #![tactic(auto)]
 
-ghost use Rattle.std.specs.Prelude.{◌≡◌, ◌<◌, ◌≤◌, ℕ, length, take, None, OnOk, OnErr};
+ghost use Rattle.std.specs.Prelude.{◌≡◌, ◌<◌, ◌≤◌, ℕ, length, take, IfOk, OnOk, OnErr, MatchResult};
 ghost use Rattle.std.specs.Io.{ReadsAtMost, WritesAtMost};
 ghost use Rattle.std.specs.Io.KnownBytes.{Appends, Consumes, IsAtEnd, ReadConsumes, WriteAppends};
 ghost use Rattle.whole.specs.Begin.{Begin};
@@ -9,11 +9,19 @@ ghost use Rattle.whole.specs.Begin.{Begin};
 use std::io;
 use std::io::{ErrorKind, Read, Write};
 
-// How many bytes were read, and how a read failed.
+// A read that failed, and how many bytes were read before it.
 #[derive(Drop)]
-pub struct Taken {
+pub struct Cut {
     pub len: usize,
-    pub failed: Option<io::Error>,
+    pub error: io::Error,
+}
+
+impl From<Cut> for io::Error {
+    ghost from_gives = { λ cut e. e ≡ cut.error };
+
+    fn from(cut: Cut) -> io::Error {
+        cut.error
+    }
 }
 
 // One read, made again where a signal interrupts it.
@@ -46,26 +54,23 @@ fn write_on<W: Write>(writer: &mut W, buf: &[u8]) -> io::Result<usize>
     writer.write(buf)
 }
 
-// Reads until buf is full, the input ends or a read fails.
-pub fn read_all<R: Read>(reader: &mut R, buf: &mut [u8]) -> Taken
-    ensures begin { Begin result.len buf.new }
-    ensures bytes { Consumes (R.remaining reader.old) (R.remaining reader.new) (take result.len buf.new) }
-    ensures end { result.failed ≡ None → result.len < length buf.new → IsAtEnd (R.remaining reader.new) }
+// Reads until buf is full or the input ends; how many bytes were read.
+pub fn read_all<R: Read>(reader: &mut R, buf: &mut [u8]) -> Result<usize, Cut>
+    ensures begin { MatchResult result (λ n. Begin n buf.new) (λ cut. Begin cut.len buf.new) }
+    ensures bytes { MatchResult result
+        (λ n. Consumes (R.remaining reader.old) (R.remaining reader.new) (take n buf.new))
+        (λ cut. Consumes (R.remaining reader.old) (R.remaining reader.new) (take cut.len buf.new)) }
+    ensures end { IfOk result (λ n. n < length buf.new → IsAtEnd (R.remaining reader.new)) }
 {
     let mut len = 0;
     while len < buf.len() {
         match read_on(reader, &mut buf[len..]) {
-            Ok(0) => return Taken { len, failed: None },
+            Ok(0) => return Ok(len),
             Ok(more) => len += more,
-            Err(e) => {
-                return Taken {
-                    len,
-                    failed: Some(e),
-                };
-            }
+            Err(error) => return Err(Cut { len, error }),
         }
     }
-    Taken { len, failed: None }
+    Ok(len)
 }
 
 // Writes all of buf, or its beginning where a write fails or takes nothing.

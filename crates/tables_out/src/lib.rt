@@ -10,14 +10,11 @@ pub fn put_points(buffer: &mut [u8], points: &[i32])
     requires { PutsPoints points.now buffer.old }
     ensures { buffer.new ≡ over (all_points points.now) buffer.old }
 {
-    let n = points.len() / 3;
-    let mut v = 0;
-    while v < n {
+    for v in 0..points.len() / 3 {
         let x = points::coord(points, v, 0);
         let y = points::coord(points, v, 1);
         let z = points::coord(points, v, 2);
         records::put_point(&mut buffer[7 * v..], x, y, z);
-        v += 1;
     }
 }
 
@@ -26,13 +23,10 @@ pub fn put_facets(buffer: &mut [u8], corners: &[u16], begins: &[u16])
     requires { PutsFacets corners.now begins.now buffer.old }
     ensures { buffer.new ≡ over (all_facets corners.now begins.now) buffer.old }
 {
-    let n = begins.len() - 1;
     let mut at = 0;
-    let mut f = 0;
-    while f < n {
+    for f in 0..begins.len() - 1 {
         let part = tables::part(corners, begins, f);
         records::put_facet(&mut buffer[at..], part);
         at += 1 + 2 * part.len();
-        f += 1;
     }
 }

@@ -1,12 +1,11 @@
 -- What a look at a record tells, in plain words, and the other way: from what stands there, what the look is. Assumes nothing.
-use Rattle.std.specs.Prelude.{◌≡◌, refl, Bool, true, false, cond, List, ℕ, ◌+◌, ◌-◌, ◌*◌, ◌≤◌, ◌<◌, ltb, leb, eqb, length, get_or}
+use Rattle.std.specs.Prelude.{◌≡◌, refl, Bool, true, false, cond, List, ℕ, ◌+◌, ◌-◌, ◌*◌, ◌≤◌, ◌<◌, ltb, leb, eqb, length, get_or, Ok, Err}
 use Rattle.std.proofs.Common.{arith, lit≤, ltb-false, leb-false, eqb-true, le-ltb, eq-eqb, ne_eqb}
 use Rattle.std.proofs.lemmas.Bool.{eqb-false, lt-leb}
 use Rattle.tables.specs.Tables.{most_vertices, most_facets, most_corners, least_sides, most_sides}
 use Rattle.tape.specs.Little.{unsigned_at}
-use Rattle.tape.specs.Reading.{point_at, facet_at, end_at, look_at}
-use Rattle.tape.specs.declared.Next.{Next}
-use Rattle.tape.specs.declared.Next.TheVariants.{Point, Facet, End, Bad}
+use Rattle.tape.specs.Reading.{Next, point_at, facet_at, end_at, look_at}
+use Rattle.tape.specs.declared.Record.TheVariants.{Point, Facet, End}
 
 -- a point's record stands at `at`, whole, in order and within the limits
 pub record IsPoint (s : List ℕ) (at v f : ℕ) : Type 0 where
@@ -33,10 +32,10 @@ pub record IsEnd (s : List ℕ) (at v f : ℕ) : Type 0 where
 
 -- a refusal's number is 17 or more
 abbrev pub Told : List ℕ → ℕ → ℕ → ℕ → ℕ → Next → Type 0
-Told s at v f c Point = IsPoint s at v f
-Told s at v f c (Facet n) = IsFacet s at f c n
-Told s at v f c End = IsEnd s at v f
-Told s at v f c (Bad number offset) = 17 ≤ number
+Told s at v f c (Ok Point) = IsPoint s at v f
+Told s at v f c (Ok (Facet n)) = IsFacet s at f c n
+Told s at v f c (Ok End) = IsEnd s at v f
+Told s at v f c (Err refused) = 17 ≤ refused.number
 
 -- an answer by a test, case by case
 by : (P : Next → Type 0) (t : Bool) (x y : Next) → (t ≡ true → P x) → (t ≡ false → P y) → P (cond t x y)
@@ -106,7 +105,7 @@ told s at v f c =
 pub tells : (s : List ℕ) (at v f c : ℕ) {r : Next} → look_at s at v f c ≡ r → Told s at v f c r
 tells s at v f c e = rw e at (told s at v f c)
 
-pub is_point : {s : List ℕ} {at v f : ℕ} (c : ℕ) → IsPoint s at v f → look_at s at v f c ≡ Point
+pub is_point : {s : List ℕ} {at v f : ℕ} (c : ℕ) → IsPoint s at v f → look_at s at v f c ≡ Ok Point
 unfolding look_at
 is_point {s} {at} {v} {f} c k =
     rw (
@@ -117,7 +116,7 @@ is_point {s} {at} {v} {f} c k =
       le-ltb (length s - at) 7 (omega (arith, k.whole)),
     )
 
-pub is_facet_lem : {s : List ℕ} {at f c n : ℕ} (v : ℕ) → IsFacet s at f c n → look_at s at v f c ≡ Facet n
+pub is_facet_lem : {s : List ℕ} {at f c n : ℕ} (v : ℕ) → IsFacet s at f c n → look_at s at v f c ≡ Ok (Facet n)
 unfolding look_at
 is_facet_lem {s} {at} {f} {c} {n} v k =
     rw (
@@ -132,7 +131,7 @@ is_facet_lem {s} {at} {f} {c} {n} v k =
       le-ltb (length s - at) (1 + 2 * n) (omega (arith, k.whole)),
     )
 
-pub is_end : {s : List ℕ} {at v f : ℕ} (c : ℕ) → IsEnd s at v f → look_at s at v f c ≡ End
+pub is_end : {s : List ℕ} {at v f : ℕ} (c : ℕ) → IsEnd s at v f → look_at s at v f c ≡ Ok End
 unfolding look_at
 is_end {s} {at} {v} {f} c k =
     rw (

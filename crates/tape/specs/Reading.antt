@@ -1,13 +1,17 @@
 -- The reading of bytes: record after record, up to the end or the first bad record; and the tables of a tape that is read.
-use Rattle.std.specs.Prelude.{◌≡◌, refl, cond, List, [], ◌∷◌, ℕ, zero, suc, ◌+◌, ◌-◌, ◌*◌, ltb, leb, eqb, ℤ, length, get_or}
+use Rattle.std.specs.Prelude.{◌≡◌, refl, cond, List, [], ◌∷◌, ℕ, zero, suc, ◌+◌, ◌-◌, ◌*◌, ltb, leb, eqb, ℤ, length, get_or, Result, Ok, Err}
 use Rattle.std.proofs.Common.{arith, length-append}
 use Rattle.tables.specs.Tables.{most_vertices, most_facets, most_corners, most_sides}
 use Rattle.tape.specs.Little.{unsigned_at, signed_at}
 use Rattle.whole.specs.Joined.{joined, listed}
-use Rattle.tape.specs.declared.Next.{Next}
-use Rattle.tape.specs.declared.Next.TheVariants.{Point, Facet, End, Bad}
-use Rattle.reading.specs.declared.Reading.{Reading}
-use Rattle.reading.specs.declared.Reading.TheVariants.{Read, Refused}
+use Rattle.tape.specs.declared.Record.{Record}
+use Rattle.tape.specs.declared.Record.TheVariants.{Point, Facet, End}
+use Rattle.reading.specs.declared.Refused.{Refused}
+use Rattle.reading.specs.Answer.{Reading, counted, refused_at}
+
+-- a sound record, or a refusal
+abbrev pub Next : Type 0
+Next = Result Record Refused
 
 -- ---- what stands at an offset, where v points and f facets with c corners came before
 
@@ -15,50 +19,50 @@ module _ (s : List ℕ) (at : ℕ) where
   -- "18 ORDER, a point after a facet; 19 LIMIT, V, F or corners would pass their upper limit; 20 CUT, the body is short"
   abbrev pub point_at : ℕ → ℕ → Next
   point_at v f =
-      cond (ltb 0 f) (Bad 18 at)
-      (cond (leb most_vertices v) (Bad 19 at)
-      (cond (ltb (length s - at) 7) (Bad 20 at) Point))
+      cond (ltb 0 f) (Err (refused_at 18 at))
+      (cond (leb most_vertices v) (Err (refused_at 19 at))
+      (cond (ltb (length s - at) 7) (Err (refused_at 20 at)) (Ok Point)))
 
   abbrev pub facet_at : ℕ → ℕ → ℕ → Next
   facet_at f c n =
-      cond (leb most_facets f) (Bad 19 at)
-      (cond (ltb most_corners (c + n)) (Bad 19 at)
-      (cond (ltb (length s - at) (1 + 2 * n)) (Bad 20 at) (Facet n)))
+      cond (leb most_facets f) (Err (refused_at 19 at))
+      (cond (ltb most_corners (c + n)) (Err (refused_at 19 at))
+      (cond (ltb (length s - at) (1 + 2 * n)) (Err (refused_at 20 at)) (Ok (Facet n))))
 
   -- "for the end record then 21 COUNT, its numbers differ from the records; 22 TAIL, a byte follows, given at that byte's offset"
   abbrev pub end_at : ℕ → ℕ → Next
   end_at v f =
-      cond (ltb (length s - at) 5) (Bad 20 at)
+      cond (ltb (length s - at) 5) (Err (refused_at 20 at))
       (cond (eqb (unsigned_at s (at + 1)) v)
       (cond (eqb (unsigned_at s (at + 3)) f)
-      (cond (ltb 5 (length s - at)) (Bad 22 (at + 5)) End)
-      (Bad 21 at))
-      (Bad 21 at))
+      (cond (ltb 5 (length s - at)) (Err (refused_at 22 (at + 5))) (Ok End))
+      (Err (refused_at 21 at)))
+      (Err (refused_at 21 at)))
 
   -- "17 KIND, unknown"
   abbrev pub kind_at : ℕ → ℕ → ℕ → ℕ → Next
   kind_at v f c n =
       cond (eqb n 0) (end_at v f)
       (cond (eqb n 1) (point_at v f)
-      (cond (eqb n 2) (Bad 17 at)
-      (cond (ltb most_sides n) (Bad 17 at) (facet_at f c n))))
+      (cond (eqb n 2) (Err (refused_at 17 at))
+      (cond (ltb most_sides n) (Err (refused_at 17 at)) (facet_at f c n))))
 
 -- "Input used up before an end record is CUT at its length"
 unfoldable pub look_at : List ℕ → ℕ → ℕ → ℕ → ℕ → Next
-look_at s at v f c = cond (leb (length s) at) (Bad 20 at) (kind_at s at v f c (get_or s at 0))
+look_at s at v f c = cond (leb (length s) at) (Err (refused_at 20 at)) (kind_at s at v f c (get_or s at 0))
 
 -- ---- "the first bad record decides"
 
 -- what a record leaves to the records after it
 abbrev pub after : (ℕ → ℕ → ℕ → ℕ → Reading) → ℕ → ℕ → ℕ → ℕ → Next → Reading
-after rest at v f c Point = rest (at + 7) (v + 1) f c
-after rest at v f c (Facet n) = rest (at + (1 + 2 * n)) v (f + 1) (c + n)
-after rest at v f c End = Read v f c
-after rest at v f c (Bad number offset) = Refused number offset
+after rest at v f c (Ok Point) = rest (at + 7) (v + 1) f c
+after rest at v f c (Ok (Facet n)) = rest (at + (1 + 2 * n)) v (f + 1) (c + n)
+after rest at v f c (Ok End) = Ok (counted v f c)
+after rest at v f c (Err refused) = Err refused
 
 -- at most k records, each by the look of its layout; k is enough (`refused-number`)
 unfoldable pub run : (ℕ → ℕ → ℕ → ℕ → Next) → ℕ → ℕ → ℕ → ℕ → ℕ → Reading
-run look zero at v f c = Refused 0 0
+run look zero at v f c = Err (refused_at 0 0)
 run look (suc k) at v f c = after (run look k) at v f c (look at v f c)
 
 -- each record has a byte at least, and the last look is at the end of the input

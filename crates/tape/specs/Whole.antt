@@ -1,7 +1,7 @@
 -- A tape is read exactly when it is whole: its records stand one after the other, in order, within the limits. Assumes nothing.
-use Rattle.std.proofs.Math.Path.{◌≡◌, refl, ap}
+use Rattle.std.proofs.Math.Path.{◌≡◌, refl, ap, subst}
 use Rattle.std.proofs.Common.{sym, ◌∙◌, below_more}
-use Rattle.std.specs.Prelude.{List, get_or}
+use Rattle.std.specs.Prelude.{List, get_or, Ok, Err}
 use Prim.Native.Nat.{ℕ, zero, suc, ◌+◌, ◌-◌, ◌*◌, ◌≤◌, ◌<◌}
 use native.Mathlib.Omega.{arith}
 use Rattle.std.proofs.Math.Numerals.{add-one}
@@ -9,11 +9,11 @@ use Rattle.std.proofs.Math.Decide.{dec_lt}
 use Rattle.std.proofs.Math.ListN.{length, length-append}
 use Rattle.tables.specs.Tables.{most_vertices, most_facets, most_corners, least_sides, most_sides}
 use Rattle.whole.specs.Joined.{joined, joined-0, joined-more, joined-split, length-listed}
-use Rattle.tape.specs.Reading.{look_at, after, run, read_tape, place, facet_from, corners_at}
+use Rattle.tape.specs.Reading.{Next, look_at, after, run, read_tape, place, facet_from, corners_at}
 use Rattle.tape.specs.Look.{IsPoint, IsFacet, IsEnd, tells, is_point, is_facet_lem, is_end}
-use Rattle.tape.specs.declared.Next.{Next}
-use Rattle.tape.specs.declared.Next.TheVariants.{Point, Facet, End, Bad}
-use Rattle.reading.specs.declared.Reading.TheVariants.{Read, Refused}
+use Rattle.tape.specs.declared.Record.TheVariants.{Point, Facet, End}
+use Rattle.reading.specs.declared.Counts.{Counts}
+use Rattle.reading.specs.Answer.{counted, refused_at}
 
 -- n facets' records stand from `at` on
 pub record Facets (s : List ℕ) (at n : ℕ) : Type 0 where
@@ -147,31 +147,29 @@ module _ {s : List ℕ} {from at v f c : ℕ} (h : Here s from at v f c) where
 
 -- ---- the look of a layout tells a point and a facet by what stands there
 pub record Looks (s : List ℕ) (look : ℕ → ℕ → ℕ → ℕ → Next) : Type 0 where
-  pub point : (at v f c : ℕ) → look at v f c ≡ Point → IsPoint s at v f
-  pub facet : (at v f c n : ℕ) → look at v f c ≡ Facet n → IsFacet s at f c n
-  pub is_point : (at v f c : ℕ) → IsPoint s at v f → look at v f c ≡ Point
-  pub is_facet_lem : (at v f c n : ℕ) → IsFacet s at f c n → look at v f c ≡ Facet n
+  pub point : (at v f c : ℕ) → look at v f c ≡ Ok Point → IsPoint s at v f
+  pub facet : (at v f c n : ℕ) → look at v f c ≡ Ok (Facet n) → IsFacet s at f c n
+  pub is_point : (at v f c : ℕ) → IsPoint s at v f → look at v f c ≡ Ok Point
+  pub is_facet_lem : (at v f c n : ℕ) → IsFacet s at f c n → look at v f c ≡ Ok (Facet n)
 
 -- where a reading ended
 pub record Ended (s : List ℕ) (look : ℕ → ℕ → ℕ → ℕ → Next) (from v f c : ℕ) : Type 0 where
   pub at : ℕ
   pub here : Here s from at v f c
-  pub end : look at v f c ≡ End
+  pub end : look at v f c ≡ Ok End
 
 module _ {s : List ℕ} {look : ℕ → ℕ → ℕ → ℕ → Next} (L : Looks s look) (from : ℕ) where
   module _ {v₁ f₁ c₁ : ℕ} where
-    one_more : (k at v f c : ℕ) → ((at v f c : ℕ) → Here s from at v f c → run look k at v f c ≡ Read v₁ f₁ c₁ → Ended s look from v₁ f₁ c₁)
-        → Here s from at v f c → (r : Next) → look at v f c ≡ r → after (run look k) at v f c r ≡ Read v₁ f₁ c₁ → Ended s look from v₁ f₁ c₁
-    one_more k at v f c more h Point e q = more (at + 7) (v + 1) f c (here_point h (L.point at v f c e)) q
-    one_more k at v f c more h (Facet n) e q = more (at + (1 + 2 * n)) v (f + 1) (c + n) (here_facet h (L.facet at v f c n e)) q
-    one_more k at v f c more h End e q =
-        let a : v ≡ v₁ = cc in
-        let b : f ≡ f₁ = cc in
-        let d : c ≡ c₁ = cc in
-        rw (← a, ← b, ← d) (record { at = at; here = h; end = e })
-    one_more k at v f c more h (Bad n o) e q = let z : ◌≡◌ {A = ℕ} 0 1 = cc in absurd (omega arith)
+    one_more : (k at v f c : ℕ) → ((at v f c : ℕ) → Here s from at v f c → run look k at v f c ≡ Ok (counted v₁ f₁ c₁) → Ended s look from v₁ f₁ c₁)
+        → Here s from at v f c → (r : Next) → look at v f c ≡ r → after (run look k) at v f c r ≡ Ok (counted v₁ f₁ c₁) → Ended s look from v₁ f₁ c₁
+    one_more k at v f c more h (Ok Point) e q = more (at + 7) (v + 1) f c (here_point h (L.point at v f c e)) q
+    one_more k at v f c more h (Ok (Facet n)) e q = more (at + (1 + 2 * n)) v (f + 1) (c + n) (here_facet h (L.facet at v f c n e)) q
+    one_more k at v f c more h (Ok End) e q =
+        let p : counted v f c ≡ counted v₁ f₁ c₁ = cc in
+        subst (λ (r : Counts). Ended s look from r.vertices r.facets r.corners) p (record { at = at; here = h; end = e })
+    one_more k at v f c more h (Err refused) e q = let z : ◌≡◌ {A = ℕ} 0 1 = cc in absurd (omega arith)
 
-    pub read_ends : (k at v f c : ℕ) → Here s from at v f c → run look k at v f c ≡ Read v₁ f₁ c₁ → Ended s look from v₁ f₁ c₁
+    pub read_ends : (k at v f c : ℕ) → Here s from at v f c → run look k at v f c ≡ Ok (counted v₁ f₁ c₁) → Ended s look from v₁ f₁ c₁
     unfolding run
     read_ends zero at v f c h q = let z : ◌≡◌ {A = ℕ} 0 1 = cc in absurd (omega arith)
     read_ends (suc k) at v f c h q = one_more k at v f c (read_ends k) h (look at v f c) refl q
@@ -184,7 +182,7 @@ module _ {s : List ℕ} {look : ℕ → ℕ → ℕ → ℕ → Next} (L : Looks
       let a : k + suc j ≡ suc k + j = omega arith in
       let b : from + 7 * j + 7 ≡ from + 7 * suc j = omega arith in
       let i : from + 7 * j + 7 ≤ length s = omega (arith, r.next, place_rises s at 0 f (omega arith), place_0 s at, r.facets.inside) in
-      let e : look (from + 7 * j) j 0 0 ≡ Point =
+      let e : look (from + 7 * j) j 0 0 ≡ Ok Point =
       L.is_point (from + 7 * j) j 0 0 (record { kind = r.kinds j (omega arith); first = refl; few = omega (arith, r.few); whole = i }) in
       rw a (run_points r j (suc k) (omega arith) ∙ rw (e, b, add-one))
 
@@ -195,7 +193,7 @@ module _ {s : List ℕ} {look : ℕ → ℕ → ℕ → ℕ → Next} (L : Looks
   run_facets {at} {n} v h (suc j) k l =
       let a : k + suc j ≡ suc k + j = omega arith in
       let b : j < n = omega arith in
-      let e : look (place s at j) v j (length (corners_at s at j)) ≡ Facet (get_or s (place s at j) 0) =
+      let e : look (place s at j) v j (length (corners_at s at j)) ≡ Ok (Facet (get_or s (place s at j) 0)) =
       L.is_facet_lem (place s at j) v j (length (corners_at s at j)) _
       (record {
         kind = refl;
@@ -223,7 +221,7 @@ looks s = record {
 }
 
 module _ {s : List ℕ} {v f c : ℕ} where
-  pub read_whole : read_tape s ≡ Read v f c → Whole s v f c
+  pub read_whole : read_tape s ≡ Ok (counted v f c) → Whole s v f c
   unfolding read_tape
   read_whole q =
       let e = read_ends (looks s) 0 (suc (length s)) 0 0 0 0 (here_0 s 0 (omega arith)) q in
@@ -235,7 +233,7 @@ module _ {s : List ℕ} {v f c : ℕ} where
         ends = rw (← a, e.here.here) (tells s e.at v f c e.end);
       }
 
-  pub whole_read : Whole s v f c → read_tape s ≡ Read v f c
+  pub whole_read : Whole s v f c → read_tape s ≡ Ok (counted v f c)
   unfolding read_tape run
   whole_read w =
       let at = place s (7 * v) f in
@@ -249,19 +247,19 @@ module _ {s : List ℕ} {v f c : ℕ} where
 
 module _ (s : List ℕ) {number offset : ℕ} where
   refuses : (k at v f c : ℕ)
-      → ((at v f c : ℕ) → at ≤ length s → length s < k + at → run (look_at s) k at v f c ≡ Refused number offset → 17 ≤ number)
-      → length s < suc k + at → (r : Next) → look_at s at v f c ≡ r → after (run (look_at s) k) at v f c r ≡ Refused number offset → 17 ≤ number
-  refuses k at v f c more l Point e q = more (at + 7) (v + 1) f c (tells s at v f c e).whole (omega arith) q
-  refuses k at v f c more l (Facet n) e q = more (at + (1 + 2 * n)) v (f + 1) (c + n) (tells s at v f c e).whole (omega arith) q
-  refuses k at v f c more l End e q = let z : ◌≡◌ {A = ℕ} 0 1 = cc in absurd (omega arith)
-  refuses k at v f c more l (Bad n o) e q = let a : n ≡ number = cc in rw a at (tells s at v f c e)
+      → ((at v f c : ℕ) → at ≤ length s → length s < k + at → run (look_at s) k at v f c ≡ Err (refused_at number offset) → 17 ≤ number)
+      → length s < suc k + at → (r : Next) → look_at s at v f c ≡ r → after (run (look_at s) k) at v f c r ≡ Err (refused_at number offset) → 17 ≤ number
+  refuses k at v f c more l (Ok Point) e q = more (at + 7) (v + 1) f c (tells s at v f c e).whole (omega arith) q
+  refuses k at v f c more l (Ok (Facet n)) e q = more (at + (1 + 2 * n)) v (f + 1) (c + n) (tells s at v f c e).whole (omega arith) q
+  refuses k at v f c more l (Ok End) e q = let z : ◌≡◌ {A = ℕ} 0 1 = cc in absurd (omega arith)
+  refuses k at v f c more l (Err refused) e q = let a : refused.number ≡ number = cc in rw a at (tells s at v f c e)
 
-  run-refuses : (k at v f c : ℕ) → at ≤ length s → length s < k + at → run (look_at s) k at v f c ≡ Refused number offset → 17 ≤ number
+  run-refuses : (k at v f c : ℕ) → at ≤ length s → length s < k + at → run (look_at s) k at v f c ≡ Err (refused_at number offset) → 17 ≤ number
   unfolding run
   run-refuses zero at v f c h l q = absurd (omega arith)
   run-refuses (suc k) at v f c h l q = refuses k at v f c (run-refuses k) l (look_at s at v f c) refl q
 
   -- so a number 0 is an acceptance
-  pub refused-number : read_tape s ≡ Refused number offset → 17 ≤ number
+  pub refused-number : read_tape s ≡ Err (refused_at number offset) → 17 ≤ number
   unfolding read_tape
   refused-number q = run-refuses (suc (length s)) 0 0 0 0 (omega arith) (omega arith) q

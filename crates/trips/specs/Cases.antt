@@ -1,5 +1,5 @@
 -- Case P, and small tapes and tables, computed. Assumes nothing.
-use Rattle.std.specs.Prelude.{◌≡◌, refl, List, [], ◌∷◌, ℕ, ℤ, pos, negsuc, length, take, replicate}
+use Rattle.std.specs.Prelude.{◌≡◌, refl, List, [], ◌∷◌, ℕ, ℤ, pos, negsuc, length, take, replicate, Ok, Err}
 use Rattle.whole.specs.First.{first_below}
 use Rattle.points.specs.Range.{is_out}
 use Rattle.points.specs.Points.{coord_of}
@@ -12,8 +12,7 @@ use Rattle.whole.specs.Over.{over}
 use Rattle.tape.specs.Records.{packed}
 use Rattle.tape.specs.Tape.{tape}
 use Rattle.tape.specs.Reading.{look_at, run, read_tape, points_at, place, corners_at, begins_at}
-use Rattle.tape.specs.declared.Next.TheVariants.{Bad}
-use Rattle.reading.specs.declared.Reading.TheVariants.{Read, Refused}
+use Rattle.reading.specs.Answer.{counted, refused_at}
 use Rattle.reader.specs.Answer.{reading}
 use Rattle.writer.specs.Answer.{written, buffer_after}
 
@@ -37,11 +36,11 @@ bytes_t =
 pub record CaseP : Type 0 where
   pub bytes : tape points corners begins ≡ bytes_t
   pub sixty_one : length bytes_t ≡ 61
-  pub read : read_tape bytes_t ≡ Read 4 4 12
+  pub read : read_tape bytes_t ≡ Ok (counted 4 4 12)
   pub read_points : points_at bytes_t 0 4 ≡ points
   pub read_corners : corners_at bytes_t 28 4 ≡ corners
   pub read_begins : begins_at bytes_t 28 5 ≡ begins
-  pub cut : read_tape (take 60 bytes_t) ≡ Refused 20 56
+  pub cut : read_tape (take 60 bytes_t) ≡ Err (refused_at 20 56)
 
 pub case_P : CaseP
 unfolding joined packed bytes_of bits coord_of read_tape run look_at number_at signed place
@@ -49,25 +48,25 @@ case_P = record { bytes = refl; sixty_one = refl; read = refl; read_points = ref
 
 -- ROOM before anything else; input used up; the end alone
 pub record Reads : Type 0 where
-  pub room : reading [] [] [] [] ≡ Refused 16 0
-  pub empty : read_tape [] ≡ Refused 20 0
-  pub no_records : read_tape (0 ∷ 0 ∷ 0 ∷ 0 ∷ 0 ∷ []) ≡ Read 0 0 0
+  pub room : reading [] [] [] [] ≡ Err (refused_at 16 0)
+  pub empty : read_tape [] ≡ Err (refused_at 20 0)
+  pub no_records : read_tape (0 ∷ 0 ∷ 0 ∷ 0 ∷ 0 ∷ []) ≡ Ok (counted 0 0 0)
   -- KIND 2 and 13; ORDER; CUT of a body; COUNT by F, and by V; TAIL at the byte that follows
-  pub kind_2 : read_tape (2 ∷ []) ≡ Refused 17 0
-  pub kind_13 : read_tape (1 ∷ 0 ∷ 0 ∷ 0 ∷ 0 ∷ 0 ∷ 0 ∷ 13 ∷ []) ≡ Refused 17 7
-  pub order : read_tape (3 ∷ 0 ∷ 0 ∷ 0 ∷ 0 ∷ 0 ∷ 0 ∷ 1 ∷ []) ≡ Refused 18 7
-  pub no_end : read_tape (3 ∷ 0 ∷ 0 ∷ 0 ∷ 0 ∷ 0 ∷ 0 ∷ []) ≡ Refused 20 7
-  pub cut_body : read_tape (3 ∷ 0 ∷ 0 ∷ 0 ∷ 0 ∷ 0 ∷ []) ≡ Refused 20 0
-  pub count_facets : read_tape (0 ∷ 0 ∷ 0 ∷ 1 ∷ 0 ∷ []) ≡ Refused 21 0
-  pub count_points : read_tape (0 ∷ 0 ∷ 1 ∷ 0 ∷ 0 ∷ []) ≡ Refused 21 0
-  pub tail : read_tape (0 ∷ 0 ∷ 0 ∷ 0 ∷ 0 ∷ 9 ∷ []) ≡ Refused 22 5
+  pub kind_2 : read_tape (2 ∷ []) ≡ Err (refused_at 17 0)
+  pub kind_13 : read_tape (1 ∷ 0 ∷ 0 ∷ 0 ∷ 0 ∷ 0 ∷ 0 ∷ 13 ∷ []) ≡ Err (refused_at 17 7)
+  pub order : read_tape (3 ∷ 0 ∷ 0 ∷ 0 ∷ 0 ∷ 0 ∷ 0 ∷ 1 ∷ []) ≡ Err (refused_at 18 7)
+  pub no_end : read_tape (3 ∷ 0 ∷ 0 ∷ 0 ∷ 0 ∷ 0 ∷ 0 ∷ []) ≡ Err (refused_at 20 7)
+  pub cut_body : read_tape (3 ∷ 0 ∷ 0 ∷ 0 ∷ 0 ∷ 0 ∷ []) ≡ Err (refused_at 20 0)
+  pub count_facets : read_tape (0 ∷ 0 ∷ 0 ∷ 1 ∷ 0 ∷ []) ≡ Err (refused_at 21 0)
+  pub count_points : read_tape (0 ∷ 0 ∷ 1 ∷ 0 ∷ 0 ∷ []) ≡ Err (refused_at 21 0)
+  pub tail : read_tape (0 ∷ 0 ∷ 0 ∷ 0 ∷ 0 ∷ 9 ∷ []) ≡ Err (refused_at 22 5)
   -- at one record: the kind byte of a 1,025th point at the very end is LIMIT, of one that follows a facet ORDER; a facet too many is LIMIT
-  pub limit : look_at (1 ∷ []) 0 1024 0 0 ≡ Bad 19 0
-  pub order_first : look_at (1 ∷ []) 0 1024 1 0 ≡ Bad 18 0
-  pub last_point : look_at (1 ∷ []) 0 1023 0 0 ≡ Bad 20 0
-  pub limit_facets : look_at (3 ∷ []) 0 4 2048 0 ≡ Bad 19 0
-  pub limit_corners : look_at (3 ∷ []) 0 4 4 6142 ≡ Bad 19 0
-  pub last_corners : look_at (3 ∷ []) 0 4 4 6141 ≡ Bad 20 0
+  pub limit : look_at (1 ∷ []) 0 1024 0 0 ≡ Err (refused_at 19 0)
+  pub order_first : look_at (1 ∷ []) 0 1024 1 0 ≡ Err (refused_at 18 0)
+  pub last_point : look_at (1 ∷ []) 0 1023 0 0 ≡ Err (refused_at 20 0)
+  pub limit_facets : look_at (3 ∷ []) 0 4 2048 0 ≡ Err (refused_at 19 0)
+  pub limit_corners : look_at (3 ∷ []) 0 4 4 6142 ≡ Err (refused_at 19 0)
+  pub last_corners : look_at (3 ∷ []) 0 4 4 6141 ≡ Err (refused_at 20 0)
 
 pub reads : Reads
 unfolding read_tape run look_at number_at

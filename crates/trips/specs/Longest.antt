@@ -1,6 +1,6 @@
 -- The longest tape is one that is read: as many points, facets and corners as there may be. Assumes nothing.
-use Rattle.std.specs.Prelude.{◌≡◌, List, ℕ, ◌+◌, ◌*◌, ◌≤◌, ◌<◌, ℤ, pos, length, get_or, take, drop, replicate}
-use Rattle.std.proofs.Common.{◌∙◌, mul-div_cancel, arith, lit<, length-take, get_or-take, get_or-drop}
+use Rattle.std.specs.Prelude.{◌≡◌, List, ℕ, ◌+◌, ◌*◌, ◌≤◌, ◌<◌, ℤ, pos, length, get_or, take, drop, replicate, Ok}
+use Rattle.std.proofs.Common.{ap, ◌∙◌, mul-div_cancel, arith, lit<, length-take, get_or-take, get_or-drop}
 use Rattle.std.proofs.Math.Decide.{dec_lt}
 use Rattle.std.proofs.Math.ListN.{length-replicate, get_or-eq_default}
 use Rattle.std.proofs.lemmas.List.{get_or-replicate}
@@ -11,7 +11,8 @@ use Rattle.tables.specs.Tables.{most_vertices, most_facets, facets, begin}
 use Rattle.tape.specs.Tape.{tape}
 use Rattle.tape.specs.Reading.{read_tape}
 use Rattle.tape.specs.Whole.{whole_read}
-use Rattle.reading.specs.declared.Reading.TheVariants.{Read}
+use Rattle.reading.specs.declared.Counts.{Counts}
+use Rattle.reading.specs.Answer.{counted}
 use Rattle.longest.specs.Longest.{longest_tape, length-read}
 use Rattle.trips.specs.Taped.{Holds}
 use Rattle.trips.specs.TapeIsRead.{holds_whole}
@@ -66,15 +67,15 @@ module _ (v f : ℕ) where
     numbers = λ k l. record { small = λ i. rw (same-part (f * 3) 0 _ (begin begins k) i) (lit< tt) };
   }
 
-  read : v ≤ most_vertices → f ≤ most_facets → read_tape (tape points corners begins) ≡ Read v f (f * 3)
+  read : v ≤ most_vertices → f ≤ most_facets → read_tape (tape points corners begins) ≡ Ok (counted v f (f * 3))
   read a b =
-      let e : Read (vertices points) (facets begins) (length corners) ≡ Read v f (f * 3) = rw (count_points, count_facets, length-replicate) in
-      whole_read (holds_whole (holds a b)) ∙ e
+      let e : counted (vertices points) (facets begins) (length corners) ≡ counted v f (f * 3) = rw (count_points, count_facets, length-replicate) in
+      whole_read (holds_whole (holds a b)) ∙ ap (λ (r : Counts). Ok r) e
 
 unfoldable pub longest : List ℕ
 longest = tape (points most_vertices most_facets) (corners most_vertices most_facets) (begins most_vertices most_facets)
 
-pub longest-read : read_tape longest ≡ Read 1024 2048 6144
+pub longest-read : read_tape longest ≡ Ok (counted 1024 2048 6144)
 unfolding longest
 longest-read = read most_vertices most_facets (omega arith) (omega arith)
 

@@ -1,5 +1,5 @@
 -- Both round trips, said of what the reader and the writer promise. Assumes nothing.
-use Rattle.std.specs.Prelude.{◌≡◌, refl, Bool, true, false, not, ◌||◌, List, ℕ, ◌+◌, ◌*◌, ◌/◌, ◌%◌, ◌≤◌, ◌<◌, eqb, ℤ, length, get_or, take}
+use Rattle.std.specs.Prelude.{◌≡◌, refl, Bool, true, false, not, ◌||◌, List, ℕ, ◌+◌, ◌*◌, ◌/◌, ◌%◌, ◌≤◌, ◌<◌, eqb, ℤ, length, get_or, take, Ok, Err}
 use Rattle.std.proofs.Common.{ap, ◌∙◌, arith, lit<}
 use Rattle.std.proofs.Math.Nat.{div-add-mod'}
 use Rattle.std.proofs.Math.Dec.{ltb}
@@ -21,9 +21,7 @@ use Rattle.tape.specs.Records.{divided, length_facet}
 use Rattle.tape.specs.Tape.{tape}
 use Rattle.tape.specs.Reading.{read_tape, points_at, corners_at, begins_at, length-points_at}
 use Rattle.tape.specs.Whole.{read_whole, whole_read, refused-number}
-use Rattle.reading.specs.declared.Reading.{Reading}
-use Rattle.reading.specs.declared.Reading.TheVariants.{Read, Refused}
-use Rattle.reading.specs.Answer.{answer_number, first_value, second_value, third_value}
+use Rattle.reading.specs.Answer.{Reading, counted, answer_number, first_value, second_value, third_value}
 use Rattle.reading.specs.Room.{no_room}
 use Rattle.reader.specs.Answer.{reading, points_after, corners_after, begins_after}
 use Rattle.reader.specs.Room.{with_room}
@@ -38,11 +36,11 @@ use Rattle.trips.specs.TapeIsRead.{holds_whole, points-are, corners-are, begins-
 
 module _ {s : List ℕ} where
   -- what a reading means: the bytes are the tape of the tables that their records hold
-  pub read-taped : Bytes s → {v f c : ℕ} → read_tape s ≡ Read v f c → Taped s (points_at s 0 v) (corners_at s (7 * v) f) (begins_at s (7 * v) (f + 1))
+  pub read-taped : Bytes s → {v f c : ℕ} → read_tape s ≡ Ok (counted v f c) → Taped s (points_at s 0 v) (corners_at s (7 * v) f) (begins_at s (7 * v) (f + 1))
   read-taped b e = whole_taped b (read_whole e)
 
   pub taped_read : {points : List ℤ} {corners begins : List ℕ} → Taped s points corners begins
-      → read_tape s ≡ Read (vertices points) (facets begins) (length corners)
+      → read_tape s ≡ Ok (counted (vertices points) (facets begins) (length corners))
   taped_read t = rw t.same (whole_read (holds_whole t.holds))
 
 -- ---- what the reader leaves, cut to the need
@@ -62,16 +60,22 @@ module _ (tape : List ℕ) (points : List ℤ) (corners begins : List ℕ) where
     v : ℕ
     f : ℕ
     c : ℕ
-    is : reading tape points corners begins ≡ Read v f c
-    read : read_tape tape ≡ Read v f c
+    is : reading tape points corners begins ≡ Ok (counted v f c)
+    read : read_tape tape ≡ Ok (counted v f c)
 
   accepts : answer_number (reading tape points corners begins) ≡ 0 → Accepts
   accepts n = go (no_room (length points) (length corners) (length begins)) refl (read_tape tape) refl
     where
       go : (t : Bool) → no_room (length points) (length corners) (length begins) ≡ t → (o : Reading) → read_tape tape ≡ o → Accepts
       go true e o q = let z : ◌≡◌ {A = ℕ} 16 0 = rw e at n in absurd (omega arith)
-      go false e (Read v f c) q = record { v = v; f = f; c = c; is = with_room tape points corners begins e ∙ q; read = q }
-      go false e (Refused number offset) q = let z : number ≡ 0 = rw (e, q) at n in absurd (omega (arith, refused-number tape q))
+      go false e (Ok read) q = record {
+        v = read.vertices;
+        f = read.facets;
+        c = read.corners;
+        is = with_room tape points corners begins e ∙ q;
+        read = q;
+      }
+      go false e (Err refused) q = let z : refused.number ≡ 0 = rw (e, q) at n in absurd (omega (arith, refused-number tape q))
 
   -- every tape that the reader accepts is the tape of the tables that it filled
   pub accepted-taped : Bytes tape → answer_number (reading tape points corners begins) ≡ 0 → Taped tape filled_points filled_corners filled_begins
@@ -99,8 +103,8 @@ module _ (tape : List ℕ) (points : List ℤ) (corners begins : List ℕ) where
   refused-unchanged n = go (reading tape points corners begins) refl
     where
       go : (o : Reading) → reading tape points corners begins ≡ o → Unchanged
-      go (Read v f c) e = absurd (n (ap answer_number e))
-      go (Refused number offset) e = record { same_points = rw e; same_corners = rw e; same_begins = rw e }
+      go (Ok read) e = absurd (n (ap answer_number e))
+      go (Err refused) e = record { same_points = rw e; same_corners = rw e; same_begins = rw e }
 
 pub refused-unwritten : (points : List ℤ) (corners begins buffer : List ℕ) → ((written points corners begins buffer).number ≡ 0 → ⊥)
     → buffer_after points corners begins buffer ≡ buffer
@@ -174,7 +178,7 @@ read-then_written s points corners begins buffer b n o h = taped_written (accept
 
 -- the reader answers the tables' counts, and leaves the tables over the beginnings of those lent
 pub record SameTables (s : List ℕ) (points : List ℤ) (corners begins : List ℕ) (lentPoints : List ℤ) (lentCorners lentBegins : List ℕ) : Type 0 where
-  pub answer : reading s lentPoints lentCorners lentBegins ≡ Read (vertices points) (facets begins) (length corners)
+  pub answer : reading s lentPoints lentCorners lentBegins ≡ Ok (counted (vertices points) (facets begins) (length corners))
   pub left_points : points_after s lentPoints lentCorners lentBegins ≡ over points lentPoints
   pub left_corners : corners_after s lentPoints lentCorners lentBegins ≡ over corners lentCorners
   pub left_begins : begins_after s lentPoints lentCorners lentBegins ≡ over begins lentBegins
@@ -187,7 +191,7 @@ holds_read : {points : List ℤ} {corners begins : List ℕ} → Holds points co
     → SameTables (tape points corners begins) points corners begins lentPoints lentCorners lentBegins
 holds_read {points} {corners} {begins} h p c b room =
     let s = tape points corners begins in
-    let out : reading s p c b ≡ Read (vertices points) (facets begins) (length corners) = with_room s p c b room ∙ whole_read (holds_whole h) in
+    let out : reading s p c b ≡ Ok (counted (vertices points) (facets begins) (length corners)) = with_room s p c b room ∙ whole_read (holds_whole h) in
     let last : length begins ≡ facets begins + 1 = omega (arith, h.divided.some) in
     record {
       answer = out;

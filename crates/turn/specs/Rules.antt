@@ -1,9 +1,8 @@
 -- Number 10, TURN, by its row of the sheet's table. A facet is its part of the run.
-use Rattle.std.specs.Prelude.{Bool, false, cond, not, List, ℕ, eqb, ℤ, length, get_or}
-use Rattle.whole.specs.First.{any_below, NoneYet}
-use Rattle.space.specs.Rows.{ExactRow, widest}
+use Rattle.std.specs.Prelude.{◌≡◌, refl, Bool, false, cond, not, List, ℕ, eqb, ℤ, length, get_or}
+use Rattle.whole.specs.First.{any_below}
 use Rattle.sides.specs.Sides.{normal_of, is_left}
-use Rattle.flat.specs.Facet.{Facet, corner_after}
+use Rattle.flat.specs.Facet.{corner_after}
 use Rattle.tables.specs.Facets.{in_facets}
 use Rattle.tables.specs.Search.{Search}
 
@@ -18,11 +17,14 @@ unfoldable pub is_turn : List ℤ → List ℕ → ℕ → Bool
 is_turn points part p =
     any_below (λ q. strays points (normal_in points part) (get_or part p 0) (corner_after part p) (get_or part q 0)) (length part)
 
--- the loop over a facet's edges has passed those before p, with the facet's normal n
-pub record Unturned (points : List ℤ) (part : List ℕ) (n : List ℤ) (p : ℕ) : Type 0 where
-  pub facet : Facet points part
-  pub normal : ExactRow widest (normal_in points part) n
-  pub yet : NoneYet (is_turn points part) (length part) p
+-- the test of the edge from a to b, with the facet's normal n
+unfoldable pub some_stray : List ℤ → List ℕ → List ℤ → ℕ → ℕ → Bool
+some_stray points part n a b = any_below (λ q. strays points n a b (get_or part q 0)) (length part)
+
+pub turn_at : (points : List ℤ) (part : List ℕ) (p : ℕ)
+    → is_turn points part p ≡ some_stray points part (normal_in points part) (get_or part p 0) (corner_after part p)
+unfolding is_turn some_stray
+turn_at points part p = refl
 
 abbrev pub turn : List ℤ → List ℕ → List ℕ → Search
 turn points corners begins = in_facets corners begins (is_turn points)

@@ -92,6 +92,6 @@ solid_write_one κs a r s e f (p, (t, u)) (p', (t', u')) = (one p p', (one t t',
 
 -- ---- the judge as the walk calls it: and the two tables of the index
 
-pub with_index_one : (κs : Lfts 5) (a : _) (r s : _) (e f : _) → with-index.Post κs a r e → with-index.Post κs a s f
-    → (r ≡ s) × (e.1.1.1.0.now ≡ f.1.1.1.0.now) × (e.1.1.1.1.0.now ≡ f.1.1.1.1.0.now)
+pub with_index_one : (κs : Lfts 4) (a : _) (r s : _) (e f : _) → with-index.Post κs a r e → with-index.Post κs a s f
+    → (r ≡ s) × (e.1.1.1.0.now.edges ≡ f.1.1.1.0.now.edges) × (e.1.1.1.0.now.heads ≡ f.1.1.1.0.now.heads)
 with_index_one κs a r s e f p q = one_outcome _ _ (λ r. r.number) p q

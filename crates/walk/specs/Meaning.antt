@@ -4,6 +4,7 @@ use Rattle.std.proofs.Common.{sym, ap, ◌∙◌, subst, arith}
 use Rattle.std.proofs.Math.Decide.{ℕ_discrete, dec_lt}
 use borrow.Author.Tests.{ne_eqb, le-leb, lt-leb, lt-ltb, le-ltb}
 use Rattle.points.specs.Points.{vertices}
+use Rattle.index.specs.declared.Edge.{Edge}
 use Rattle.answers.specs.Answer.{refused}
 use Rattle.edges.specs.Index.{Indexed, leaves-each}
 use Rattle.judge.specs.Judge.{judged}
@@ -64,7 +65,7 @@ module _ (points : List ℤ) (corners begins : List ℕ) (d : Direction) (start 
 
   -- a walk that is granted may climb from where it begins, and what the climb leaves is the outcome
   module _ (G : Granted) {s : Standing} (e : s ≡ begin points d start) where
-    pub granted_climbs : {edges : List (List ℕ)} {heads : List ℕ} → Indexed corners begins edges heads → Climbs points corners begins edges heads s trail
+    pub granted_climbs : {edges : List Edge} {heads : List ℕ} → Indexed corners begins edges heads → Climbs points corners begins edges heads s trail
     granted_climbs I = climbs e (is_measured points corners begins G.accepted) (leaves-each I) G.permitted G.corner G.room
 
     pub climbed_end : {w : Walked} {r : Standing} {t : List ℕ} → w ≡ arrived r → Climbed points corners begins s trail r t

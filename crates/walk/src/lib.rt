@@ -5,17 +5,22 @@ ghost use Rattle.std.specs.Prelude.{◌≡◌};
 ghost use Rattle.answers.specs.Answer.{refused};
 ghost use Rattle.walk.specs.Walk.{halted, arrived, walked, trail_after};
 
+use answers::Answer;
+use climb::Standing;
+use index::Index;
+use refusals::Refusal;
+
 // The walk's answer: the number and places beside the last vertex, its height, and the moves.
 #[derive(Clone, Copy)]
 pub struct Walked {
-    pub answer: answers::Answer,
+    pub answer: Answer,
     pub vertex: u16,
     pub height: i64,
     pub moves: usize,
 }
 
 impl Walked {
-    fn halted(answer: answers::Answer) -> Self
+    fn halted(answer: Answer) -> Self
         ensures { result ≡ halted answer }
     {
         Self {
@@ -29,18 +34,16 @@ impl Walked {
     pub fn refused(number: u16) -> Self
         ensures { result ≡ halted (refused number) }
     {
-        Self::halted(answers::Answer::refused(number))
+        Self::halted(Answer::refused(number))
     }
 
-    fn arrived(last: climb::Standing) -> Self
+    fn arrived(last: Standing) -> Self
         ensures { result ≡ arrived last }
     {
-        let answer = answers::Answer::passed();
-        let spot = last.spot;
         Self {
-            answer,
-            vertex: spot.vertex,
-            height: spot.height,
+            answer: Answer::passed(),
+            vertex: last.spot.vertex,
+            height: last.spot.height,
             moves: last.moves,
         }
     }
@@ -59,22 +62,21 @@ pub fn walk(
     ensures trail { trail.new ≡
         trail_after points.now corners.now begins.now direction start trail.old }
 {
-    let mut edges = [[0u16; index::ENTRIES]; tables::MOST_CORNERS];
-    let mut heads = [0u16; tables::MOST_VERTICES];
-    let answer = judge::judge_with_index(points, corners, begins, &mut edges, &mut heads);
+    let mut index = Index::BLANK;
+    let answer = judge::judge_with_index(points, corners, begins, &mut index);
     if answer.number != 0 {
         return Walked::halted(answer);
     }
     let vertices = points.len() / 3;
     if vertices <= start {
-        return Walked::refused(13);
+        return Walked::refused(Refusal::Start.number());
     }
     if direction.is_wrong() {
-        return Walked::refused(14);
+        return Walked::refused(Refusal::Direction.number());
     }
     if trail.len() < vertices {
-        return Walked::refused(15);
+        return Walked::refused(Refusal::Trail.number());
     }
-    let begin = climb::Standing::begin(points, direction, start as u16);
-    Walked::arrived(begin.climb(points, corners, begins, &edges, &heads, trail))
+    let begin = Standing::begin(points, direction, start as u16);
+    Walked::arrived(begin.climb(points, corners, begins, &index, trail))
 }

@@ -11,20 +11,16 @@ pub fn walk_tape(tape: &[u8], direction: direction::Direction, start: usize) -> 
     let mut points = [0i32; reading::POINT_ROOM];
     let mut corners = [0u16; reading::CORNER_ROOM];
     let mut begins = [0u16; reading::BEGIN_ROOM];
-    let loaded = load::load(tape, &mut points, &mut corners, &mut begins);
-    if loaded.number != 0 {
-        return walk::Walked::refused(loaded.number);
-    }
-    let p = loaded.points;
-    let c = loaded.corners;
-    let b = loaded.begins;
     let mut trail = [0u16; tables::MOST_VERTICES];
-    walk::walk(
-        &points[..p],
-        &corners[..c],
-        &begins[..b],
-        direction,
-        start,
-        &mut trail,
-    )
+    match load::load(tape, &mut points, &mut corners, &mut begins) {
+        Ok(loaded) => walk::walk(
+            &points[..loaded.points],
+            &corners[..loaded.corners],
+            &begins[..loaded.begins],
+            direction,
+            start,
+            &mut trail,
+        ),
+        Err(refused) => walk::Walked::refused(refused.number),
+    }
 }

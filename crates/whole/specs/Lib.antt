@@ -12,6 +12,7 @@ pub mod Filled
 pub mod Stores
 pub mod Orbit
 pub mod Rounds
+pub mod Searches
 pub mod Flood
 pub mod Joined
 pub mod Over

@@ -1,5 +1,5 @@
 -- What tables in order have for the writer, and what it owes. Assumes nothing.
-use Rattle.std.specs.Prelude.{◌≡◌, refl, List, ℕ, ◌+◌, ◌*◌, ◌≤◌, ◌<◌, ℤ, length}
+use Rattle.std.specs.Prelude.{◌≡◌, refl, List, ℕ, ◌+◌, ◌*◌, ◌≤◌, ◌<◌, ℤ, length, Ok, Err}
 use Rattle.std.proofs.Common.{sym, ap, ◌∙◌, arith, lt-ltb, le-ltb, ne_eqb}
 use Rattle.std.specs.Int.{w16}
 use Rattle.whole.specs.Bounds.{within-fits}
@@ -7,11 +7,11 @@ use Rattle.points.specs.Points.{vertices}
 use Rattle.tables.specs.Tables.{most_vertices, most_facets, most_corners, facets}
 use Rattle.tables.specs.Size.{sized}
 use Rattle.limits.specs.Rules.{in_limits}
-use Rattle.answers.specs.Answer.{answer_of, refused, of_length, fault_number, some_fault}
+use Rattle.answers.specs.Answer.{Outcome, answer_of, refused, of_length, fault_number, some_fault}
 use Rattle.answers.specs.Order.{first_of, number_0}
-use Rattle.answers.specs.declared.Fault.TheVariants.{Breaks}
+use Rattle.answers.specs.declared.Fault.{Fault}
 use Rattle.answers.specs.declared.Answer.{Answer}
-use Rattle.limits.specs.InOrder.{limit_rules, InOrder, none_limits, laid}
+use Rattle.limits.specs.InOrder.{limit_rules, InOrder, limits_none, none_limits, laid}
 use Rattle.whole.specs.Over.{over}
 use Rattle.tape.specs.Records.{Fits16, divided}
 use Rattle.tape.specs.Tape.{tape, length-tape}
@@ -42,9 +42,13 @@ module _ {points : List ℤ} {corners begins : List ℕ} (o : InOrder points cor
     length_is = length-tape points (divided (laid o));
   }
 
+-- tables that the check passes are in order
+pub checked : {points : List ℤ} {corners begins : List ℕ} {r : Outcome} → r ≡ first_of (limit_rules points corners begins) → r ≡ Ok tt
+    → InOrder points corners begins
+checked {points} {corners} {begins} is e = limits_none points corners begins (sym is ∙ e)
+
 -- a fault's number is not 0
-never_0 : (points : List ℤ) (corners begins : List ℕ) {number first second : ℕ} → first_of (limit_rules points corners begins) ≡ Breaks number first second
-    → number ≡ 0 → ⊥
+never_0 : (points : List ℤ) (corners begins : List ℕ) {x : Fault} → first_of (limit_rules points corners begins) ≡ Err x → x.number ≡ 0 → ⊥
 never_0 points corners begins h z = some_fault (sym h ∙ number_0 (limit_rules points corners begins) refl (ap fault_number h ∙ z))
 
 module _ (points : List ℤ) (corners begins buffer : List ℕ) where
@@ -52,11 +56,11 @@ module _ (points : List ℤ) (corners begins buffer : List ℕ) where
   Owed answer new = (answer ≡ written points corners begins buffer) × (new ≡ buffer_after points corners begins buffer)
 
   -- number 1, 2 or 3
-  pub faulty_owed : {answer : Answer} {number first second : ℕ} → answer ≡ answer_of points corners begins (Breaks number first second)
-      → first_of (limit_rules points corners begins) ≡ Breaks number first second → Owed answer buffer
-  faulty_owed {answer} {number} e h =
+  pub faulty_owed : {answer : Answer} {x : Fault} → answer ≡ answer_of points corners begins (Err x)
+      → first_of (limit_rules points corners begins) ≡ Err x → Owed answer buffer
+  faulty_owed {answer} {x} e h =
       let s : answer ≡ written points corners begins buffer = rw h e in
-      (s, rw (← s, ap (λ a. a.number) e, ne_eqb number 0 (never_0 points corners begins h)))
+      (s, rw (← s, ap (λ a. a.number) e, ne_eqb x.number 0 (never_0 points corners begins h)))
 
   module _ (o : InOrder points corners begins) where
     pub short_owed : {answer : Answer} → answer ≡ refused 23 → length buffer < length (tape points corners begins) → Owed answer buffer

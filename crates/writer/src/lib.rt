@@ -7,7 +7,11 @@ ghost use Rattle.whole.specs.Over.{over};
 ghost use Rattle.tape.specs.Tape.{tape};
 ghost use Rattle.writer.specs.Answer.{written, buffer_after};
 
+use answers::Answer;
+use refusals::Refusal;
+
 // The tape of tables in order, written over the beginning of a buffer that has room.
+#[tactic(auto, using(crate::specs::Owed::long))]
 fn put_tape(points: &[i32], corners: &[u16], begins: &[u16], buffer: &mut [u8])
     requires in_order { InOrder points.now corners.now begins.now }
     requires room { length (tape points.now corners.now begins.now) ≤ length buffer.old }
@@ -23,28 +27,17 @@ fn put_tape(points: &[i32], corners: &[u16], begins: &[u16], buffer: &mut [u8])
 }
 
 // Writes the tape of tables over the beginning of a buffer.
-pub fn write_tape(
-    points: &[i32],
-    corners: &[u16],
-    begins: &[u16],
-    buffer: &mut [u8],
-) -> answers::Answer
+pub fn write_tape(points: &[i32], corners: &[u16], begins: &[u16], buffer: &mut [u8]) -> Answer
     ensures answer { result ≡ written points.now corners.now begins.now buffer.old }
     ensures buffer { buffer.new ≡ buffer_after points.now corners.now begins.now buffer.old }
 {
-    let early = limits::check(points, corners, begins);
-    if let answers::Fault::Breaks(number, first, second) = early {
-        return answers::Answer::of(
-            points,
-            corners,
-            begins,
-            answers::Fault::Breaks(number, first, second),
-        );
+    if let Err(fault) = limits::check(points, corners, begins) {
+        return Answer::of(points, corners, begins, Err(fault));
     }
     let long = 7 * (points.len() / 3) + (begins.len() - 1) + 2 * corners.len() + 5;
     if buffer.len() < long {
-        return answers::Answer::refused(23);
+        return Answer::refused(Refusal::Buffer.number());
     }
     put_tape(points, corners, begins, buffer);
-    answers::Answer::of_length(long)
+    Answer::of_length(long)
 }

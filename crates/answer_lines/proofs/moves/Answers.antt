@@ -11,5 +11,5 @@ returns c =
     let e = number_read _ c.number_of-3.ensures in
     let f = number_read _ c.number_of-2.ensures in
     let g = number_read _ c.number_of.ensures in
-    let (line, prints) = printed (moves_of w) (rw (e, f, g, same) at c.line4.ensures) in
+    let (line, prints) = printed (moves_of w) (rw (e, f, g, same, c.from.ensures, c.from-2.ensures) at c.line4.ensures) in
     record { line = line; prints = prints }

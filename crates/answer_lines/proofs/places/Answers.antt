@@ -9,5 +9,5 @@ returns c =
     let f = number_read _ c.number_of-3.ensures in
     let g = number_read _ c.number_of-2.ensures in
     let h = number_read _ c.number_of.ensures in
-    let (line, prints) = printed (places_of c.args.a) (rw (e, f, g, h) at c.line4.ensures) in
+    let (line, prints) = printed (places_of c.args.a) (rw (e, f, g, h, c.from.ensures) at c.line4.ensures) in
     record { line = line; prints = prints }

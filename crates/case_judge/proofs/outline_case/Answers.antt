@@ -1,8 +1,5 @@
-use Rattle.case_show.proofs.Grows.{grows_twice}
+use Rattle.case_show.specs.Grows.{grows_twice}
 use Rattle.case_judge.proofs.outline_case.Goals as goal
 
-pub returns-in_err-show_text : goal.returns-in_err-show_text
-returns-in_err-show_text g c = grows_twice _ _ _ c.show_answer.ensures c.show_text.ensures
-
-pub returns : goal.returns
-returns g c = grows_twice _ _ _ c.show_answer.ensures c.show_text.ensures
+pub returns-clause-grows : goal.returns-clause-grows
+returns-clause-grows g c = grows_twice c.show_answer.ensures c.show_text.ensures

@@ -1,5 +1,5 @@
-use Rattle.case_show.proofs.Grows.{grows_twice}
+use Rattle.case_show.specs.Grows.{grows_twice}
 use Rattle.case_read.proofs.read_case.Goals as goal
 
-pub returns : goal.returns
-returns g c = grows_twice _ _ _ c.show_answer.ensures c.show_tables.ensures
+pub returns-clause-grows : goal.returns-clause-grows
+returns-clause-grows g c = grows_twice c.show_answer.ensures c.show_tables.ensures.grows

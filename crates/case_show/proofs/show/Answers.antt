@@ -4,16 +4,9 @@ use mir.Facts.{to_z-of_z}
 use Rattle.decimal.specs.Shown.{few_bytes}
 use Rattle.case_show.proofs.show.Goals as goal
 
-pub put_number-end-requires : goal.put_number-end-requires
-put_number-end-requires g c = rw (to_z-of_z c.ranges.z) (omega (arith, few_bytes c.args.z c.ranges.z))
-
-pub slice_bounds-text-end : goal.slice_bounds-text-end
-slice_bounds-text-end g c =
-    let ends = rw (to_z-of_z c.ranges.z) at c.put_number-end.ensures.ends in
-    omega (arith, ends, c.put_number-end.auto.buf, few_bytes c.args.z c.ranges.z)
-
 pub slice_bounds-show_text-end : goal.slice_bounds-show_text-end
 slice_bounds-show_text-end g c =
-    let ends = rw (to_z-of_z c.ranges.z) at c.put_number-end.ensures.ends in
-    let within : c.put_number-end.result ≤ length c.put_number-end.new.buf = omega (arith, ends, c.put_number-end.auto.buf, few_bytes c.args.z c.ranges.z) in
+    let ends = rw (to_z-of_z c.ranges.number) at c.put_number-end.ensures.ends in
+    let few = few_bytes c.args.number c.ranges.number in
+    let within : c.put_number-end.result ≤ length c.put_number-end.new.buf = omega (arith, ends, c.put_number-end.auto.buf, few) in
     sym (length-take-le _ _ within)

@@ -1,5 +1,5 @@
 -- Something may have been written.
-use Rattle.case_show.proofs.Grows.{Grows}
+use Rattle.case_show.specs.Grows.{Grows}
 use Rattle.cases.proofs.run.Given as goal
 
 abbrev pub invariant-loop : goal.invariant-loop

@@ -3,7 +3,7 @@ use Rattle.climb.specs.Best.{Searching}
 use Rattle.climb.proofs.highest.Given as goal
 
 abbrev pub invariant-loop-q : goal.invariant-loop-q
-invariant-loop-q l = Searching l.points l.corners l.begins l.edges l.heads l.direction l.initial.best.vertex l.q l.best
+invariant-loop-q l = Searching l.points l.corners l.begins l.index.edges l.index.heads l.here.direction l.initial.best.vertex l.q l.best
 
 -- links fall
 abbrev pub decreases-loop-q : goal.decreases-loop-q

@@ -4,7 +4,7 @@ use Rattle.edges.specs.Along.{Seeking}
 use Rattle.edges.proofs.last_edge.Given as goal
 
 abbrev pub invariant-loop-q : goal.invariant-loop-q
-invariant-loop-q l = Seeking l.corners l.begins l.edges l.heads l.a (is_edge l.corners l.begins l.a l.b) l.q
+invariant-loop-q l = Seeking l.corners l.begins l.index.edges l.index.heads l.a (is_edge l.corners l.begins l.a l.b) l.q
 
 abbrev pub decreases-loop-q : goal.decreases-loop-q
 decreases-loop-q l = l.q

@@ -2,7 +2,7 @@
 use Rattle.std.proofs.Common.{ap, [], ◌∷◌, ℕ, arith}
 use Rattle.std.proofs.lemmas.List.Edits.{sets}
 use Rattle.whole.specs.Joined.{length-listed}
-use Rattle.tape.specs.SoFar.{so_far_0, so_far_more, so_far_all}
+use Rattle.tape.specs.SoFar.{so_far_0, so_far_more}
 use Rattle.facets_in.proofs.gather.Goals as goal
 
 pub loop-k-preserved : goal.loop-k-preserved
@@ -13,9 +13,3 @@ loop-k-preserved c =
 
 pub loop-k-init : goal.loop-k-init
 loop-k-init c = so_far_0 _
-
-pub shape_of-tray : goal.shape_of-tray
-shape_of-tray c = c.loop-k.invariant.wrote.long
-
-pub returns : goal.returns
-returns c = so_far_all c.loop-k.invariant (omega arith)

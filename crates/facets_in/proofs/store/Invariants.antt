@@ -1,10 +1,6 @@
 -- `facets_in::store` meets its contract. Assumes nothing.
-use Rattle.std.proofs.Common.{◌-◌}
 use Rattle.facets_in.specs.Filling.{TraySoFar}
 use Rattle.facets_in.proofs.store.Given as goal
 
 abbrev pub invariant-loop-k : goal.invariant-loop-k
 invariant-loop-k l = TraySoFar l.tray l.c l.n l.initial.corners l.corners l.k
-
-abbrev pub decreases-loop-k : goal.decreases-loop-k
-decreases-loop-k l = l.n - l.k

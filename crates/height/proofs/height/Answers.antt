@@ -1,12 +1,13 @@
 -- `height::height` meets its contract. Assumes nothing.
 use Rattle.std.proofs.Common.{◌∙◌, w32, w64}
 use Rattle.whole.specs.Machine.{read_is, read_small, read-exact, exact_read}
+use Rattle.space.specs.Rows.{row_of}
 use Rattle.height.proofs.height.Goals as goal
 
 pub dot-requires : goal.dot-requires
 dot-requires c = record {
-  normal = (read_small w64 c.wide_part.ensures tt tt, read_small w64 c.wide_part-2.ensures tt tt, read_small w64 c.wide_part-3.ensures tt tt);
-  difference = (read_small w64 c.wide_coord.ensures tt tt, read_small w64 c.wide_coord-2.ensures tt tt, read_small w64 c.wide_coord-3.ensures tt tt);
+  normal = row_of (read_small w64 c.wide_part.ensures tt tt) (read_small w64 c.wide_part-2.ensures tt tt) (read_small w64 c.wide_part-3.ensures tt tt);
+  difference = row_of (read_small w64 c.wide_coord.ensures tt tt) (read_small w64 c.wide_coord-2.ensures tt tt) (read_small w64 c.wide_coord-3.ensures tt tt);
 }
 
 pub returns : goal.returns

@@ -1,18 +1,25 @@
 -- `outline::judge_turns` meets its contract. Assumes nothing.
-use Rattle.std.proofs.Common.{lt-ltb, le-ltb}
-use Rattle.outline.specs.Outline.{judged_turns}
+use Rattle.std.proofs.Common.{◌∙◌}
+use Rattle.once_round.specs.Words.{count, not_left, wound}
+use Rattle.outline.specs.Outline.{judged_turns, refused_at, passed}
 use Rattle.outline.proofs.judge_turns.Goals as goal
 
-pub returns-then-straight-n : goal.returns-then-straight-n
+pub returns-in-Some : goal.returns-in-Some
 unfolding judged_turns
-returns-then-straight-n c = rw (← c.first_not_left-straight.ensures, lt-ltb _ _ c.if-straight-n.true)
+returns-in-Some c =
+    let points = c.args.points.now in
+    c.refused.ensures ∙ refused_at 25 (not_left points) (count points) _ c.in-Some.ensures
 
-pub returns-then-again-n : goal.returns-then-again-n
+pub returns-in-Some-second_far : goal.returns-in-Some-second_far
 unfolding judged_turns
-returns-then-again-n c =
-    rw (← c.first_not_left-straight.ensures, le-ltb _ _ c.if-straight-n.false, ← c.second_far-again.ensures, lt-ltb _ _ c.if-again-n.true)
+returns-in-Some-second_far c =
+    let points = c.args.points.now in
+    c.refused-in-Some-second_far.ensures ∙ refused_at 26 (wound points) (count points) _ c.in-Some-second_far.ensures
+    ∙ passed 25 (not_left points) (count points) _ c.in_default.ensures
 
 pub returns : goal.returns
 unfolding judged_turns
 returns c =
-    rw (← c.first_not_left-straight.ensures, le-ltb _ _ c.if-straight-n.false, ← c.second_far-again.ensures, le-ltb _ _ c.if-again-n.false)
+    let points = c.args.points.now in
+    passed 26 (wound points) (count points) _ c.in_default-second_far.ensures
+    ∙ passed 25 (not_left points) (count points) _ c.in_default.ensures

@@ -4,7 +4,7 @@ use Rattle.edges.specs.Along.{Counting}
 use Rattle.pair.proofs.times.Given as goal
 
 abbrev pub invariant-loop-q : goal.invariant-loop-q
-invariant-loop-q l = Counting l.corners l.begins l.edges l.heads l.a (is_edge l.corners l.begins l.a l.b) l.n l.q
+invariant-loop-q l = Counting l.corners l.begins l.index.edges l.index.heads l.a (is_edge l.corners l.begins l.a l.b) l.n l.q
 
 abbrev pub decreases-loop-q : goal.decreases-loop-q
 decreases-loop-q l = l.q

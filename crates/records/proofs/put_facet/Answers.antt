@@ -4,11 +4,6 @@ use Rattle.tape.specs.Records.{length-packed}
 use Rattle.records.specs.Records.{framed-all}
 use Rattle.records.proofs.put_facet.Goals as goal
 
-pub shape_of-rest : goal.shape_of-rest
-shape_of-rest c =
-    let cs = c.args.corners.now in
-    (framed-all c.args.rest.now (length cs) cs c.put_body.ensures (rw length-packed (search rules))).long
-
 pub returns : goal.returns
 returns c =
     let cs = c.args.corners.now in

@@ -5,4 +5,4 @@ use Rattle.space.specs.Algebra.{det-last}
 use Rattle.rows.proofs.determinant.Goals as goal
 
 pub returns : goal.returns
-returns c = read-exact w64 c.along.ensures tt ∙ rw c.cross.ensures.exact.is (det-last _ _ _)
+returns c = read-exact w64 c.dot.ensures tt ∙ rw c.cross.ensures.exact.is (det-last _ _ _)

@@ -2,17 +2,8 @@
 use Rattle.std.proofs.Common.{to_z-of_z}
 use borrow.Author.Rules.{sfits_of}
 use Rattle.space.specs.Vectors.{◌-ᵛ◌}
-use Rattle.space.specs.Rows.{row-wide}
 use Rattle.points.specs.Points.{difference_of}
 use Rattle.sides.proofs.side_of.Goals as goal
-
-pub determinant-requires : goal.determinant-requires
-determinant-requires c =
-    record {
-      first = row-wide c.row.ensures.small;
-      second = c.row-2.ensures.small;
-      third = c.row-3.ensures.small;
-    }
 
 pub returns : goal.returns
 unfolding difference_of ◌-ᵛ◌

@@ -1,15 +1,11 @@
--- The records of the facets below f are written; at the end all of them are. Assumes nothing.
+-- The records of the facets below f are written. Assumes nothing.
 use Rattle.std.proofs.Common.{arith}
 use Rattle.whole.specs.Over.{length-window}
-use Rattle.tape.specs.SoFar.{so_far_all}
 use Rattle.tables_out.specs.Records.{facet-0, facet_more, writes_facet}
 use Rattle.tables_out.proofs.put_facets.Goals as goal
 
 pub loop-f-init : goal.loop-f-init
 loop-f-init c = facet-0 c.requires
-
-pub part-part-requires : goal.part-part-requires
-part-part-requires c = (c.loop-f.invariant.asked.laid, c.loop-f-test.true)
 
 pub slice_bounds-put_facet-count : goal.slice_bounds-put_facet-count
 slice_bounds-put_facet-count c = let t = writes_facet c.loop-f.invariant c.loop-f-test.true c.part-part.ensures.is in omega arith
@@ -24,6 +20,3 @@ put_facet-requires c =
 
 pub loop-f-preserved : goal.loop-f-preserved
 loop-f-preserved c = facet_more c.loop-f.invariant c.loop-f-test.true c.part-part.ensures.is c.put_facet.ensures
-
-pub returns : goal.returns
-returns c = so_far_all c.loop-f.invariant.so_far (omega arith)

@@ -1,8 +1,6 @@
--- The records of the points below v are written, whose coordinates the machine reads as they are; at the end all of them are. Assumes nothing.
-use Rattle.std.proofs.Common.{◌≡◌, arith, lit<, ℤ, w16, w32, SFits, to_z, of_z}
-use Rattle.whole.specs.Over.{length-window}
+-- The records of the points below v are written, whose coordinates the machine reads as they are. Assumes nothing.
+use Rattle.std.proofs.Common.{◌≡◌, lit<, ℤ, w16, w32, SFits, to_z, of_z}
 use Rattle.tape.specs.Little.{read_back}
-use Rattle.tape.specs.SoFar.{so_far_all}
 use Rattle.tables_out.specs.Records.{point-0, point-more}
 use Rattle.tables_out.proofs.put_points.Goals as goal
 
@@ -13,19 +11,6 @@ read z h e = rw e (read_back h)
 pub loop-v-init : goal.loop-v-init
 loop-v-init c = point-0 c.requires
 
-pub put_point-requires : goal.put_point-requires
-put_point-requires c =
-    let fits = c.loop-v.invariant.asked.placed.fits c.loop-v.v in
-    let x = fits 0 c.loop-v-test.true (lit< tt) in
-    let y = fits 1 c.loop-v-test.true (lit< tt) in
-    let z = fits 2 c.loop-v-test.true (lit< tt) in
-    record {
-      room = rw length-window (omega arith);
-      fits_x = rw (read _ x c.coord-x.ensures) x;
-      fits_y = rw (read _ y c.coord-y.ensures) y;
-      fits_z = rw (read _ z c.coord-z.ensures) z;
-    }
-
 pub loop-v-preserved : goal.loop-v-preserved
 loop-v-preserved c =
     let fits = c.loop-v.invariant.asked.placed.fits c.loop-v.v in
@@ -33,6 +18,3 @@ loop-v-preserved c =
     let y = read _ (fits 1 c.loop-v-test.true (lit< tt)) c.coord-y.ensures in
     let z = read _ (fits 2 c.loop-v-test.true (lit< tt)) c.coord-z.ensures in
     point-more c.loop-v.invariant c.loop-v-test.true (rw (x, y, z) at c.put_point.ensures)
-
-pub returns : goal.returns
-returns c = so_far_all c.loop-v.invariant.so_far (omega arith)

@@ -1,10 +1,6 @@
 -- `tables_out::put_points` meets its contract. Assumes nothing.
-use Rattle.std.proofs.Common.{◌-◌}
 use Rattle.tables_out.specs.Records.{PointTurn}
 use Rattle.tables_out.proofs.put_points.Given as goal
 
 abbrev pub invariant-loop-v : goal.invariant-loop-v
 invariant-loop-v l = PointTurn l.points l.initial.buffer l.buffer l.v
-
-abbrev pub decreases-loop-v : goal.decreases-loop-v
-decreases-loop-v l = l.n - l.v

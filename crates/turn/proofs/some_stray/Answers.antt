@@ -1,29 +1,18 @@
 -- `turn::some_stray` meets its contract: the law of searches, over the corners. Assumes nothing.
-use Rattle.std.proofs.Common.{sym, ◌∙◌, arith}
-use Rattle.whole.specs.First.{yet_0, yet_more, any_hit, any_miss}
+use Rattle.std.proofs.Common.{rules}
+use Rattle.std.proofs.lemmas.Iterator.{YieldsList-from_slice}
+use Rattle.std.proofs.lemmas.Iterator.Adapters.{serves_from_places}
+use Rattle.whole.specs.Searches.{any_by_items}
+use Rattle.flat.specs.Facet.{corner_named}
+use Rattle.turn.specs.Rules.{strays, some_stray}
 use Rattle.turn.proofs.some_stray.Goals as goal
 
-pub strays-requires : goal.strays-requires
-strays-requires c =
-    let (f, r, a, b) = c.requires in
-    record { three = record { ranged = f.ranged; first = a; second = b; third = f.named c.loop-q.q (omega arith) }; bounded_row = r }
-
-pub returns-then-strays : goal.returns-then-strays
-returns-then-strays c =
-    any_hit c.loop-q.invariant (sym c.strays.ensures ∙ c.if-strays.true) (omega arith)
-
-pub loop-q-preserved : goal.loop-q-preserved
-loop-q-preserved c =
-    yet_more c.loop-q.invariant (sym c.strays.ensures ∙ c.if-strays.false) (omega arith)
-
-pub loop-q-init : goal.loop-q-init
-loop-q-init c = yet_0
-
-pub overflow_add-q : goal.overflow_add-q
-overflow_add-q c = omega arith
-
-pub loop-q-smaller : goal.loop-q-smaller
-loop-q-smaller c = omega arith
-
 pub returns : goal.returns
-returns c = any_miss c.loop-q.invariant (omega arith)
+unfolding some_stray
+returns c =
+    any_by_items (strays c.args.points.now c.args.n c.args.a c.args.b) _ _ _ _ _ c.iter.ensures.rest c.any.ensures.ran (λ x b q k. search rules)
+
+pub any-requires-clause-callable : goal.any-requires-clause-callable
+any-requires-clause-callable c =
+    let (f, r, a, b) = c.requires in
+    serves_from_places (YieldsList-from_slice _ c.iter.ensures.rest) (λ x q k. search rules) (λ x k l e. let v = corner_named f k l e in search (rules, v))

@@ -1,5 +1,5 @@
 -- `walk::walk` meets its contract. Assumes nothing.
-use Rattle.std.proofs.Common.{refl, sym, ap, ◌∙◌, arith}
+use Rattle.std.proofs.Common.{sym, ap, ◌∙◌, arith}
 use Rattle.accepts.specs.Meaning.{is_measured}
 use Rattle.direction.specs.Direction.{permitted, wrong_exactly}
 use Rattle.walk.specs.Walk.{halted}
@@ -16,21 +16,21 @@ pub returns-then-vertices-start : goal.returns-then-vertices-start
 returns-then-vertices-start c =
     let judged = c.judge_with_index-answer.ensures in
     let (r, t) = walk-end_is _ _ _ _ _ _ (START (rw judged.answer at c.if-answer-ne0.false) c.if-vertices-start.true) in
-    record { answer = c.refused.ensures ∙ r; trail = t }
+    record { answer = rw c.number.ensures at c.refused.ensures ∙ r; trail = t }
 
 pub returns-then-is_wrong : goal.returns-then-is_wrong
 returns-then-is_wrong c =
     let judged = c.judge_with_index-answer.ensures in
     let wrong = (wrong_exactly _).0 (sym c.is_wrong.ensures ∙ c.if-is_wrong.true) in
     let (r, t) = walk-end_is _ _ _ _ _ _ (DIRECTION (rw judged.answer at c.if-answer-ne0.false) c.if-vertices-start.false wrong) in
-    record { answer = c.refused-then-is_wrong.ensures ∙ r; trail = t }
+    record { answer = rw c.number-then-is_wrong.ensures at c.refused-then-is_wrong.ensures ∙ r; trail = t }
 
 pub returns-then-trail-vertices : goal.returns-then-trail-vertices
 returns-then-trail-vertices c =
     let judged = c.judge_with_index-answer.ensures in
     let right = permitted _ (sym c.is_wrong.ensures ∙ c.if-is_wrong.false) in
     let (r, t) = walk-end_is _ _ _ _ _ _ (TRAIL (rw judged.answer at c.if-answer-ne0.false) c.if-vertices-start.false right c.if-trail-vertices.true) in
-    record { answer = c.refused-then-trail-vertices.ensures ∙ r; trail = t }
+    record { answer = rw c.number-then-trail-vertices.ensures at c.refused-then-trail-vertices.ensures ∙ r; trail = t }
 
 pub begin-begin-requires : goal.begin-begin-requires
 begin-begin-requires c =
@@ -60,6 +60,3 @@ returns c =
     c.begin-begin.ensures c.arrived.ensures c.climb.ensures
     in
     record { answer = r; trail = t }
-
-pub judge_with_index-answer-requires : goal.judge_with_index-answer-requires
-judge_with_index-answer-requires c = record { rows = refl; links = refl }

@@ -33,12 +33,6 @@ module _ (ps : List ℤ) (cs bs buffer : List ℕ) (o : InOrder ps cs bs) (room 
         let l = long o in
         handed records (ending (vertices ps) (facets bs)) end e (length-records ps (divided (laid o)) ∙ omega arith) (rw length-packed (omega arith))
 
-pub overflow_sub-f : goal.overflow_sub-f
-overflow_sub-f c = let l = long c.requires.in_order in omega arith
-
-pub overflow_add-end-2 : goal.overflow_add-end-2
-overflow_add-end-2 c = let l = long c.requires.in_order in omega arith
-
 pub put_points-requires : goal.put_points-requires
 put_points-requires c =
     let l = long c.requires.in_order in
@@ -46,60 +40,41 @@ put_points-requires c =
 
 pub slice_bounds-put_facets-count : goal.slice_bounds-put_facets-count
 slice_bounds-put_facets-count c =
-    let a = c.args in
     let l = long c.requires.in_order in
-    let w = points a.points.now a.corners.now a.begins.now a.buffer.now c.requires.in_order c.requires.room c.put_points.ensures in
+    let w = points _ _ _ _ c.requires.in_order c.requires.room c.put_points.ensures in
     omega (arith, c.requires.room)
 
 pub slice_bounds-put_facets-start : goal.slice_bounds-put_facets-start
 slice_bounds-put_facets-start c =
-    let a = c.args in
     let l = long c.requires.in_order in
-    let w = points a.points.now a.corners.now a.begins.now a.buffer.now c.requires.in_order c.requires.room c.put_points.ensures in
+    let w = points _ _ _ _ c.requires.in_order c.requires.room c.put_points.ensures in
     omega (arith, c.requires.room)
 
 pub put_facets-requires : goal.put_facets-requires
 put_facets-requires c =
-    let a = c.args in
     let l = long c.requires.in_order in
-    let w = points a.points.now a.corners.now a.begins.now a.buffer.now c.requires.in_order c.requires.room c.put_points.ensures in
+    let w = points _ _ _ _ c.requires.in_order c.requires.room c.put_points.ensures in
     record { laid = laid c.requires.in_order; room = rw length-window (omega (arith, c.requires.room)) }
 
 pub slice_bounds-put_counts-count : goal.slice_bounds-put_counts-count
 slice_bounds-put_counts-count c =
-    let a = c.args in
     let l = long c.requires.in_order in
-    let w = records a.points.now a.corners.now a.begins.now a.buffer.now c.requires.in_order c.requires.room c.put_points.ensures c.put_facets.ensures in
+    let w = records _ _ _ _ c.requires.in_order c.requires.room c.put_points.ensures c.put_facets.ensures in
     omega (arith, c.requires.room)
 
 pub slice_bounds-put_counts-start : goal.slice_bounds-put_counts-start
 slice_bounds-put_counts-start c =
-    let a = c.args in
     let l = long c.requires.in_order in
-    let w = records a.points.now a.corners.now a.begins.now a.buffer.now c.requires.in_order c.requires.room c.put_points.ensures c.put_facets.ensures in
+    let w = records _ _ _ _ c.requires.in_order c.requires.room c.put_points.ensures c.put_facets.ensures in
     omega (arith, c.requires.room)
-
-pub overflow_cast-v : goal.overflow_cast-v
-overflow_cast-v c = let l = long c.requires.in_order in omega arith
-
-pub overflow_cast-f : goal.overflow_cast-f
-overflow_cast-f c = let l = long c.requires.in_order in omega arith
 
 pub put_counts-requires : goal.put_counts-requires
 put_counts-requires c =
-    let a = c.args in
     let l = long c.requires.in_order in
-    let w = records a.points.now a.corners.now a.begins.now a.buffer.now c.requires.in_order c.requires.room c.put_points.ensures c.put_facets.ensures in
+    let w = records _ _ _ _ c.requires.in_order c.requires.room c.put_points.ensures c.put_facets.ensures in
     rw length-window (omega (arith, c.requires.room))
-
-pub shape_of-buffer : goal.shape_of-buffer
-shape_of-buffer c =
-    let a = c.args in
-    (whole a.points.now a.corners.now a.begins.now a.buffer.now c.requires.in_order c.requires.room c.put_points.ensures c.put_facets.ensures
-    c.put_counts.ensures).long
 
 pub returns : goal.returns
 returns c =
-    let a = c.args in
-    (whole a.points.now a.corners.now a.begins.now a.buffer.now c.requires.in_order c.requires.room c.put_points.ensures c.put_facets.ensures
+    (whole _ _ _ _ c.requires.in_order c.requires.room c.put_points.ensures c.put_facets.ensures
     c.put_counts.ensures).is
