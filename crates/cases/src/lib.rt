@@ -14,7 +14,7 @@ const LIST: usize = 400;
 
 const TAPE: usize = 13000;
 
-// Room for what a case begins with.
+// Room for what a case begins with. It serves case after case: each reads no more of it than it has filled.
 #[derive(Drop)]
 struct Room {
     points: [i32; LIST],
@@ -45,20 +45,11 @@ impl Room {
     }
 }
 
-// Runs the case that begins with the next word, if there is one.
-fn case<W: Write>(writer: &mut W, text: &mut Text) -> io::Result<()>
+// Runs the case of a letter.
+fn case<W: Write>(writer: &mut W, letter: u8, room: &mut Room, text: &mut Text) -> io::Result<()>
     ensures grows { Grows (W.contents writer.old) (W.contents writer.new) }
     ensures same { text.new.bytes ≡ text.old.bytes }
 {
-    let Some(letter) = text.letter() else {
-        return Ok(());
-    };
-    let mut room = Room {
-        points: [0; LIST],
-        corners: [0; LIST],
-        begins: [0; LIST],
-        tape: [0; TAPE],
-    };
     match letter {
         b'O' => case_judge::outline_case(writer, text),
         b'L' => case_line::judging_case(writer, room.tape(text)),
@@ -76,8 +67,17 @@ pub fn run<W: Write>(writer: &mut W, text: &[u8]) -> io::Result<()>
     ensures { Grows (W.contents writer.old) (W.contents writer.new) }
 {
     let mut rest = Text { bytes: text, at: 0 };
+    let mut room = Room {
+        points: [0; LIST],
+        corners: [0; LIST],
+        begins: [0; LIST],
+        tape: [0; TAPE],
+    };
     for _ in text {
-        case(writer, &mut rest)?;
+        let Some(letter) = rest.letter() else {
+            break;
+        };
+        case(writer, letter, &mut room, &mut rest)?;
     }
     Ok(())
 }
