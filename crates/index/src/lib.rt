@@ -6,7 +6,7 @@ ghost use Rattle.tables.specs.Tables.{most_vertices, most_corners};
 ghost use Rattle.index.specs.Entries.{home_at, end_at, across_at, back_at, head_at};
 
 // The edge at a place: its facet, the vertex at which it ends, the place across, the link to the place before it in its chain.
-#[derive(Clone, Copy)]
+#[derive(Clone, Copy, PartialEq, Eq)]
 pub struct Edge {
     pub home: u16,
     pub end: u16,
@@ -24,7 +24,7 @@ impl Edge {
 }
 
 // The edge at each place, and for each vertex the link to the last place that leaves it. A link is one more than a place, or 0.
-#[derive(Drop)]
+#[derive(Clone, Copy, PartialEq, Eq)]
 pub struct Index {
     pub edges: [Edge; tables::MOST_CORNERS],
     pub heads: [u16; tables::MOST_VERTICES],
