@@ -2,7 +2,7 @@
 #![tactic(auto)]
 
 ghost use Rattle.std.specs.Prelude.{◌≡◌, ◌≤◌, ◌<◌, length};
-ghost use Rattle.whole.specs.First.{any_below, found_below};
+ghost use Rattle.whole.specs.First.{first_below, found_below};
 ghost use Rattle.tables.specs.Tables.{most_vertices};
 ghost use Rattle.names.specs.Rules.{is_at, again, repeat, unused};
 ghost use Rattle.tables.specs.Size.{Laid};
@@ -12,19 +12,19 @@ ghost use Rattle.names.specs.Marks.{Marks};
 
 use tables::Place;
 
-// Whether v stands among the first n of a part.
-fn stands(part: &[u16], v: u16, n: usize) -> bool
+// The first position below n at which v stands, or n.
+pub fn first_at(part: &[u16], v: u16, n: usize) -> usize
     requires { n ≤ length part.now }
-    ensures { result ≡ any_below (is_at part.now v) n }
+    ensures { result ≡ first_below (is_at part.now v) n }
 {
-    part[..n].iter().any(|&c| c == v)
+    (0..n).find(|&p| part[p] == v).unwrap_or(n)
 }
 
 // The first position whose corner stands at an earlier one too.
 fn first_again(part: &[u16]) -> Option<usize>
     ensures { result ≡ found_below (again part.now) (length part.now) }
 {
-    (0..part.len()).find(|&p| stands(part, part[p], p))
+    (0..part.len()).find(|&p| first_at(part, part[p], p) < p)
 }
 
 // Number 4, REPEAT: its first place.
