@@ -2,7 +2,7 @@
 use Rattle.std.specs.Prelude.{◌≡◌, refl, List, ◌++◌, ℤ, length, set, drop}
 use Rattle.std.proofs.Common.{sym, ◌∙◌, arith, length-append, length-drop, drop-set-lt}
 use Rattle.std.proofs.Math.Path.{ap, subst}
-use Prim.Native.Nat.{ℕ, suc, ◌+◌, ◌≤◌, ◌<◌}
+use Prim.Native.Nat.{ℕ, suc, ◌+◌, ◌-◌, ◌≤◌, ◌<◌}
 use Rattle.std.proofs.Math.ListN.{length-set}
 use Rattle.points.specs.Points.{vertices, Vertex}
 use Rattle.tables.specs.Tables.{most_vertices}
@@ -100,11 +100,19 @@ module _ {points : List ℤ} {corners begins : List ℕ} {edges : List Edge} {he
   abbrev walk : ℕ → Standing
   walk = after points corners begins s.direction s.spot.vertex
 
+  pub climbing_length : length trail ≡ length lent
+  climbing_length =
+      rw (K.wrote, length-append, stood-length points corners begins s.direction s.spot.vertex (suc k), length-drop)
+      (omega (arith, K.going.left, K.climbs.room))
+
+  here_moves : here.moves ≡ k
+  here_moves = ap (λ r. r.moves) K.at ∙ K.going.moves
+
   stepped : Stepped points corners begins s.direction (walk k) (walk (suc k))
   stepped = by_step points corners begins s.direction s.spot.vertex k
 
   -- a step on
-  on : step points corners begins here ≡ walk (suc k)
+  pub on : step points corners begins here ≡ walk (suc k)
   unfolding after
   on = ap (step points corners begins) K.at
 
@@ -127,12 +135,13 @@ module _ {points : List ℤ} {corners begins : List ℕ} {edges : List Edge} {he
     next-moves = ap (λ r. r.moves) next_is ∙ moves.moves
 
     pub climbing_room : next.moves < length trail
-    climbing_room =
-        rw (K.wrote, length-append, stood-length points corners begins s.direction s.spot.vertex (suc k), length-drop)
-        (omega (arith, next-moves, moves.left, K.going.left, K.climbs.room))
+    climbing_room = rw climbing_length (omega (arith, next-moves, moves.left, K.climbs.room))
 
     pub climbing_few : next.moves < most_vertices
     climbing_few = omega (arith, next-moves, moves.left, K.climbs.measured.sound.named.few)
+
+    pub climbing_less : vertices points - next.moves < vertices points - here.moves
+    climbing_less = omega (arith, next-moves, here_moves, moves.left)
 
     pub climbing_more : Climbing points corners begins edges heads s lent (set trail next.moves next.spot.vertex) next next.moves
     climbing_more =
@@ -146,6 +155,13 @@ module _ {points : List ℤ} {corners begins : List ℕ} {edges : List Edge} {he
         })
 
   -- ---- it did not: the walk has stopped
+
+  -- the moves tell that it did not
+  pub stays : (step points corners begins here).moves ≤ here.moves → step points corners begins here ≡ here
+  stays l = elim stepped [
+    | moved u v h up e ↦ absurd (omega (arith, l, ap (λ r. r.moves) K.at, ap (λ r. r.moves) (on ∙ e)))
+    | stayed h e ↦ on ∙ e ∙ sym K.at
+  ]
 
   pub climbing_end : step points corners begins here ≡ here → Climbed points corners begins s lent here trail
   climbing_end h =

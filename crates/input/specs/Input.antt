@@ -1,7 +1,7 @@
 -- "from standard input, up to 256 bytes, the start and the three parts of the direction as decimal numbers with blanks or newlines between".
 -- Assumes nothing.
-use Rattle.std.specs.Prelude.{◌≡◌, refl, Bool, true, false, cond, ◌||◌, List, ℕ, suc, min, ltb, ℤ, pos, negsuc, length, take, Option, Some, None}
-use Rattle.std.proofs.Common.{true≢false, arith, SFits, ltb-true}
+use Rattle.std.specs.Prelude.{◌≡◌, refl, Bool, true, false, cond, ◌||◌, List, ℕ, suc, min, ◌≤◌, ltb, ℤ, pos, negsuc, length, take, Option, Some, None}
+use Rattle.std.proofs.Common.{sym, true≢false, arith, take_all, SFits, ltb-true}
 use Rattle.std.specs.Int.Signed.{lt_z}
 use Rattle.std.specs.Int.{w64}
 use Rattle.whole.specs.Bounds.{◌within◌, abs_neg, exceeds, within-exceeds, within-fits}
@@ -61,6 +61,9 @@ direction_in input =
     (direction (part_at input 1) (part_at input 2) (part_at input 3))
 
 -- ---- what the programs' functions cite
+
+pub split-short : (input : List ℕ) → length input ≤ longest → input ≡ split input
+split-short input h = sym (take_all longest input h)
 
 pub negative : (z : ℤ) → lt_z z (pos 0) ≡ true → vertex_of z ≡ no_vertex
 negative (pos n) e = absurd (omega (arith, ltb-true n 0 e))

@@ -1,7 +1,7 @@
 -- What the filling pass needs, and what lent room gives. Assumes nothing.
 use Rattle.std.specs.Prelude.{◌≡◌, Bool, true, false, cond, List, ℕ, ◌+◌, ◌*◌, ◌≤◌, ℤ, length, Ok, Err}
 use Rattle.std.proofs.Common.{arith}
-use Rattle.reading.specs.Room.{no_room, Roomy, roomy}
+use Rattle.reading.specs.Room.{no_room, Roomy}
 use Rattle.reading.specs.declared.Counts.{Counts}
 use Rattle.reading.specs.Answer.{refused_at}
 use Rattle.tape.specs.Reading.{read_tape}
@@ -14,20 +14,21 @@ module _ {tape : List ℕ} {v f c : ℕ} (w : Whole tape v f c) where
   pub points-inside : 7 * v ≤ length tape
   points-inside = omega (arith, place_rises tape (7 * v) 0 f (omega arith), place_0 tape (7 * v), w.records.facets.inside)
 
-  module _ (points : List ℤ) (corners begins : List ℕ) (room : no_room (length points) (length corners) (length begins) ≡ false) where
+  module _ {points : List ℤ} {corners begins : List ℕ} (r : Roomy points corners begins) where
     pub for_points : (0 + 7 * v ≤ length tape) × (v * 3 ≤ length points)
-    for_points = let r : Roomy points corners begins = roomy room in (omega (arith, points-inside), omega (arith, w.records.few, r.point_room))
+    for_points = (omega (arith, points-inside), omega (arith, w.records.few, r.point_room))
 
     pub for_facets : Fillable tape (7 * v) f corners begins
-    for_facets =
-        let r : Roomy points corners begins = roomy room in
-        record {
-          facets = w.records.facets;
-          run_room = r.corner_room;
-          begin_room = omega (arith, w.records.facets.few, r.begin_room);
-        }
+    for_facets = record {
+      facets = w.records.facets;
+      run_room = r.corner_room;
+      begin_room = omega (arith, w.records.facets.few, r.begin_room);
+    }
 
 module _ (tape : List ℕ) (points : List ℤ) (corners begins : List ℕ) where
+  pub no_room_lem : no_room (length points) (length corners) (length begins) ≡ true → reading tape points corners begins ≡ Err (refused_at 16 0)
+  no_room_lem e = rw e
+
   pub with_room : no_room (length points) (length corners) (length begins) ≡ false → reading tape points corners begins ≡ read_tape tape
   with_room e = rw e
 

@@ -1,6 +1,6 @@
 -- Stores into the rest of a buffer, as the record that they make. Assumes nothing.
 use Rattle.std.specs.Prelude.{◌≡◌, refl, List, [], ◌∷◌, ℕ, ◌+◌, ◌*◌, ◌≤◌, ◌<◌, ℤ, length, get_or, take, set}
-use Rattle.std.proofs.Common.{ap, ◌∙◌, arith, length-take-le, SFits}
+use Rattle.std.proofs.Common.{ap, ◌∙◌, arith, length-set, length-take-le, SFits}
 use Rattle.std.proofs.lemmas.List.Edits.{sets}
 use Rattle.std.proofs.Math.Seq.{length-sets}
 use Rattle.std.specs.Int.{w16}
@@ -42,11 +42,17 @@ body_more {numbers} {old} {new} {next} {k} t l e =
 abbrev pub stores : List ℕ → ℕ → List ℕ → List ℕ
 stores rest kind body = sets (set rest 0 kind) 1 body
 
+pub length-stores : (rest : List ℕ) (kind : ℕ) (body : List ℕ) → length (stores rest kind body) ≡ length rest
+length-stores rest kind body = length-sets (set rest 0 kind) 1 body ∙ length-set rest 0 kind
+
 pub framed-all : (rest : List ℕ) {new : List ℕ} (kind : ℕ) (ns : List ℕ) → new ≡ stores rest kind (packed ns)
     → length (framed kind ns) ≤ length rest → Wrote (framed kind ns) rest new
 framed-all rest kind ns e h = wrote (e ∙ sets_over (framed kind ns) rest h) h
 
 module _ (rest : List ℕ) (kind x y : ℕ) {one two : List ℕ} (a : one ≡ stores rest kind (bytes_of 2 x)) (b : two ≡ sets one 3 (bytes_of 2 y)) where
+  pub length_two : length two ≡ length rest
+  length_two = rw (b, length-sets, a) (length-stores rest kind (bytes_of 2 x))
+
   pub framed-two : 5 ≤ length rest → Wrote (framed kind (x ∷ y ∷ [])) rest two
   unfolding packed bytes_of
   framed-two h = framed-all rest kind (x ∷ y ∷ []) (rw (b, a)) h
